@@ -1,0 +1,40 @@
+use crate::Name;
+
+/// The identity of a file or folder, which it keeps wherever it moves. The root of every tree is 0, and has no node.
+#[derive(Clone, Copy, Debug, PartialEq, Eq, PartialOrd, Ord, Hash)]
+pub struct NodeId(pub u64);
+
+/// A version of a file's content. Every content that is recorded has its own, from 1; a folder has 0.
+#[derive(Clone, Copy, Debug, PartialEq, Eq, PartialOrd, Ord, Hash)]
+pub struct Ver(pub u64);
+
+/// What stands at an identity. It never changes.
+#[derive(Clone, Copy, Debug, PartialEq, Eq, Hash)]
+pub enum Kind {
+    Folder,
+    File,
+}
+
+/// Where a node stands: its parent, and its name among the parent's children.
+#[derive(Debug, Drop)]
+pub struct Place {
+    pub parent: NodeId,
+    pub name: Name,
+}
+
+/// A file or folder of a tree.
+#[derive(Debug, Drop)]
+pub struct Node {
+    pub place: Place,
+    pub kind: Kind,
+    pub ver: Ver,
+    /// Whether a file may be executed; a folder never has it.
+    pub bit: bool,
+}
+
+/// The next identity and the next version that nobody has had yet.
+#[derive(Clone, Copy, Debug, PartialEq, Eq)]
+pub struct Counters {
+    pub next_id: u64,
+    pub next_ver: u64,
+}

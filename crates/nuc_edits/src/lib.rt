@@ -1,0 +1,6 @@
+//! The edits that were recorded: each content that was put, with the version that it replaces.
+#![tactic(auto)]
+
+mod edit;
+
+pub use edit::{Edit, EditKind};

@@ -1,0 +1,24 @@
+use nuc_folder::UserEdit;
+
+/// One thing that happens, and is answered in one step.
+#[derive(Debug, Drop)]
+pub enum Event {
+    /// The user edits the client's folder.
+    User { client: u32, edit: UserEdit },
+    /// The client lists its folder, and holds the listing.
+    List { client: u32 },
+    /// The client takes the held listing over into Local.
+    Scan { client: u32 },
+    /// The client takes a page of the server's journal over into Remote.
+    Pull { client: u32 },
+    /// The client plans what is to be done.
+    Plan { client: u32 },
+    /// The client begins an operation; an upload reads its file.
+    Start { client: u32, number: u64 },
+    /// The outside change of an operation is made.
+    Take { client: u32, number: u64 },
+    /// The client learns how an operation ended.
+    Done { client: u32, number: u64 },
+    /// The client notes whether its trees agree.
+    Mark { client: u32 },
+}

@@ -1,0 +1,57 @@
+use nuc_class::Op;
+use nuc_folder::{Item, UserReply};
+use sqlite_items::Items;
+
+/// How an event is answered.
+#[derive(Debug, Drop)]
+pub enum Reply {
+    User(UserReply),
+    /// The listing, and how often Local had changed when it began.
+    Listed { changes: u64, items: Items<Item> },
+    Scan(ScanReply),
+    /// How many entries were taken, and the cursor after them.
+    Pulled { entries: u64, cursor: u64 },
+    Plan(PlanReply),
+    Started(StartReply),
+    Took(TakeReply),
+    Done(DoneReply),
+    Marked(MarkReply),
+}
+
+#[derive(Clone, Copy, Debug, PartialEq, Eq)]
+pub enum ScanReply {
+    /// So many identities have another value in Local.
+    Changed(u64),
+}
+
+#[derive(Debug, Drop)]
+pub enum PlanReply {
+    /// Nothing is to be done.
+    Empty,
+    /// These may be carried out in any order.
+    Batch(Items<Op>),
+}
+
+#[derive(Debug, Drop)]
+pub enum StartReply {
+    /// The operation has begun; an upload with the bytes that it read.
+    Ok { bytes: Option<Items<u8>> },
+}
+
+#[derive(Clone, Copy, Debug, PartialEq, Eq)]
+pub enum TakeReply {
+    /// The server accepted the commit as this revision.
+    Accepted(u64),
+}
+
+#[derive(Clone, Copy, Debug, PartialEq, Eq)]
+pub enum DoneReply {
+    /// The trees have the operation's values.
+    Applied,
+}
+
+#[derive(Clone, Copy, Debug, PartialEq, Eq)]
+pub enum MarkReply {
+    /// Nothing is in flight, and the three trees are equal.
+    Quiet,
+}
