@@ -1,0 +1,35 @@
+-- What is legal for a file at the root.
+use Rattle.std.proofs.Common.{◌≡◌, ◌≢◌, ◌⊎◌, ◌<◌, ℕ, Option, None, Some, refl, sym, ◌∙◌, ap, subst, inl, inr, arith}
+use Rattle.std.specs.FinMap as tree
+use Rattle.nuc_base.specs.Faults.{PutFaulty}
+use Rattle.nuc_base.specs.Legal.{LegalPut, IsFree}
+use Rattle.nuc_base.specs.SamePlace.{SamePlace}
+use Rattle.nuc_base.specs.Trees.{Nodes, IsUnder, WellFormed}
+use Rattle.nuc_base.specs.Trees.Under.{here, up}
+use Rattle.nuc_base.specs.declared.node.Node.{Node}
+use Rattle.nuc_base.specs.declared.tree_fault.PutFault.{PutFault}
+use Rattle.nuc_base.specs.declared.tree_fault.PutFault.TheVariants as put
+use Rattle.nuc_base.proofs.Maps.{not_both}
+
+-- a legal put can be refused for want of memory alone
+pub legal_refusal : (m : Nodes) (x : ℕ) (n : Node) (e : PutFault) → LegalPut m x n → PutFaulty m x n e → e ≡ put.Memory
+legal_refusal m x n put.KindChanged legal faulty = absurd (faulty legal.kind)
+legal_refusal m x n put.NoParent legal faulty = absurd (faulty.1 legal.parent)
+legal_refusal m x n (put.Taken y) legal faulty =
+    let (k, e, s) = faulty.3 in absurd (faulty.2 (legal.free y.0 k e s))
+legal_refusal m x n put.Cycle legal faulty = absurd (legal.no_cycle faulty.3)
+legal_refusal m x n put.Memory legal faulty = refl
+
+root_above_none : (m : Nodes) (x y : ℕ) → tree.get m 0 ≡ None → 0 < x → IsUnder m y x → y ≡ 0 → ⊥
+root_above_none m x _ none above here e = absurd (omega arith)
+root_above_none m x _ none above (up a n at rest) e = not_both m 0 n none (subst (λ a. tree.get m a ≡ Some n) e at)
+
+-- a new file may stand at the root where its place is free
+pub legal_at_root : (m : Nodes) (x : ℕ) (n : Node) → WellFormed m → 0 < x → tree.get m x ≡ None
+    → n.place.parent.0 ≡ 0 → IsFree m x n.place → LegalPut m x n
+legal_at_root m x n form above absent root free = record {
+  kind = λ k e. absurd (not_both m x k absent e);
+  parent = inl root;
+  free = free;
+  no_cycle = λ u. root_above_none m x n.place.parent.0 form.no_root above u root;
+}

@@ -1,0 +1,13 @@
+use nuc_base::{Node, NodeId};
+
+/// One entry of the server's journal.
+#[derive(Debug, Drop)]
+pub struct Entry {
+    /// Its revision; revisions count from 1.
+    pub rev: u64,
+    pub id: NodeId,
+    /// The identity's value from this revision on; none where it was deleted.
+    pub value: Option<Node>,
+    /// The number of the client that committed it, 0 for the web.
+    pub by: u32,
+}
