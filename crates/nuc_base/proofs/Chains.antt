@@ -1,5 +1,5 @@
 -- Chains of parents, before and after a change of the map.
-use Rattle.std.proofs.Common.{◌≡◌, ◌≢◌, ◌⊎◌, ◌≤◌, ◌+◌, ◌-◌, ℕ, zero, suc, cond, Some, None, refl, sym, ap, ◌∙◌, inl, inr, arith}
+use Rattle.std.proofs.Common.{◌≡◌, ◌≢◌, ◌⊎◌, ◌≤◌, ◌+◌, ◌-◌, ℕ, zero, suc, cond, Some, None, refl, sym, ap, subst, ◌∙◌, inl, inr, arith}
 use Rattle.std.specs.Option.{is_some}
 use Rattle.std.specs.FinMap.{get, insert, remove, len, empty, len-remove, empty_of_len, get-empty}
 use Rattle.std.specs.Ordering.{nat_cmp}
@@ -18,34 +18,34 @@ under_trans m b a c (up x n e v) u = up x n e (under_trans m b n.place.parent.0 
 pub under_put : (m : Nodes) (x : ℕ) (node : Node) (b a : ℕ) → IsUnder m a b → IsUnder (insert m x node) a b ⊎ IsUnder (insert m x node) a x
 under_put m x node b a here = inl here
 under_put m x node b a (up y n e v) = elim (same_or_not y x) [
-    | inl s ↦ inr (rw s here)
-    | inr apart ↦ elim (under_put m x node b n.place.parent.0 v) [
-      | inl u ↦ inl (up y n (get_put_other m x node y apart ∙ e) u)
-      | inr u ↦ inr (up y n (get_put_other m x node y apart ∙ e) u)
-      ]
+  | inl s ↦ inr (rw s here)
+  | inr apart ↦ elim (under_put m x node b n.place.parent.0 v) [
+    | inl u ↦ inl (up y n (get_put_other m x node y apart ∙ e) u)
+    | inr u ↦ inr (up y n (get_put_other m x node y apart ∙ e) u)
   ]
+]
 
 -- and before it
 pub under_before_put : (m : Nodes) (x : ℕ) (node : Node) (b a : ℕ) → IsUnder (insert m x node) a b → IsUnder m a b ⊎ IsUnder m a x
 under_before_put m x node b a here = inl here
 under_before_put m x node b a (up y n e v) = elim (same_or_not y x) [
-    | inl s ↦ inr (rw s here)
-    | inr apart ↦ elim (under_before_put m x node b n.place.parent.0 v) [
-      | inl u ↦ inl (up y n (sym (get_put_other m x node y apart) ∙ e) u)
-      | inr u ↦ inr (up y n (sym (get_put_other m x node y apart) ∙ e) u)
-      ]
+  | inl s ↦ inr (rw s here)
+  | inr apart ↦ elim (under_before_put m x node b n.place.parent.0 v) [
+    | inl u ↦ inl (up y n (sym (get_put_other m x node y apart) ∙ e) u)
+    | inr u ↦ inr (up y n (sym (get_put_other m x node y apart) ∙ e) u)
   ]
+]
 
 -- after a cut a chain leads where it led, or to the identity that was cut
 pub under_cut : (m : Nodes) (x b a : ℕ) → IsUnder m a b → IsUnder (remove m x) a b ⊎ IsUnder (remove m x) a x
 under_cut m x b a here = inl here
 under_cut m x b a (up y n e v) = elim (same_or_not y x) [
-    | inl s ↦ inr (rw s here)
-    | inr apart ↦ elim (under_cut m x b n.place.parent.0 v) [
-      | inl u ↦ inl (up y n (get_cut_other m x y apart ∙ e) u)
-      | inr u ↦ inr (up y n (get_cut_other m x y apart ∙ e) u)
-      ]
+  | inl s ↦ inr (rw s here)
+  | inr apart ↦ elim (under_cut m x b n.place.parent.0 v) [
+    | inl u ↦ inl (up y n (get_cut_other m x y apart ∙ e) u)
+    | inr u ↦ inr (up y n (get_cut_other m x y apart ∙ e) u)
   ]
+]
 
 pub under_before_cut : (m : Nodes) (x b a : ℕ) → IsUnder (remove m x) a b → IsUnder m a b
 under_before_cut m x b a here = here
@@ -67,7 +67,11 @@ under_of_steps m b a k (step y j n e s) = up y n e (under_of_steps m b n.place.p
 -- a chain that isn't at its end goes on at the parent
 pub next_step : (m : Nodes) (b a k : ℕ) (n : Node) → Steps m b a k → a ≢ b → get m a ≡ Some n → (j : ℕ) × Steps m b n.place.parent.0 j × (k ≡ suc j)
 next_step m b a k n done apart e = absurd (apart refl)
-next_step m b a k n (step y j q f s) apart e = (j, (let same = one_node m y q n f e in rw ← same s), refl)
+next_step m b a k n (step y j q f s) apart e = (j, subst (λ (r : Node). Steps m b r.place.parent.0 j) (one_node m y q n f e) s, refl)
+
+pub no_step : (m : Nodes) (b a k : ℕ) → Steps m b a k → k ≡ 0 → a ≡ b
+no_step m b a k done e = refl
+no_step m b a k (step y j n f s) e = absurd (omega arith)
 
 -- a chain that goes on, goes on without coming back to x
 Leaves : (m : Nodes) (b x : ℕ) → Type 0
@@ -77,12 +81,12 @@ passes : (m : Nodes) (x b a : ℕ) → IsUnder m a b → IsUnder (remove m x) a 
 unfolding Leaves
 passes m x b a here = inl here
 passes m x b a (up y n e v) = elim (passes m x b n.place.parent.0 v) [
-    | inl u ↦ elim (same_or_not y x) [
-      | inl s ↦ inr (inr (n, rw (← s) e, u))
-      | inr apart ↦ inl (up y n (get_cut_other m x y apart ∙ e) u)
-      ]
-    | inr l ↦ inr l
+  | inl u ↦ elim (same_or_not y x) [
+    | inl s ↦ inr (inr (n, rw (← s) e, u))
+    | inr apart ↦ inl (up y n (get_cut_other m x y apart ∙ e) u)
   ]
+  | inr l ↦ inr l
+]
 
 nowhere : (m : Nodes) (b x : ℕ) → get m x ≡ None → IsUnder m x b → b ≡ x
 nowhere m b x none here = refl
@@ -91,9 +95,9 @@ nowhere m b x none (up y n e v) = absurd (not_both m y n none e)
 leaves : (m : Nodes) (b x : ℕ) → IsUnder m x b → Leaves m b x
 unfolding Leaves
 leaves m b x u = elim (passes m x b x u) [
-    | inl v ↦ inl (nowhere (remove m x) b x (get_cut_same m x) v)
-    | inr l ↦ l
-  ]
+  | inl v ↦ inl (nowhere (remove m x) b x (get_cut_same m x) v)
+  | inr l ↦ l
+]
 
 -- one node fewer after the cut of one that is there
 pub len_cut : (m : Nodes) (x : ℕ) (n : Node) → get m x ≡ Some n → len (remove m x) + 1 ≡ len m
@@ -105,16 +109,16 @@ len_cut m x n e =
 short_within : (fuel : ℕ) (m : Nodes) (b a : ℕ) → len m ≤ fuel → IsUnder m a b → (k : ℕ) × Steps m b a k × (k ≤ len m)
 unfolding Leaves
 short_within zero m b a fits u = elim (leaves m b a u) [
-    | inl s ↦ (0, rw s done, omega arith)
-    | inr (n, e, v) ↦ let more = len_cut m a n e in absurd (omega arith)
-  ]
+  | inl s ↦ (0, rw s done, omega arith)
+  | inr (n, e, v) ↦ let more = len_cut m a n e in absurd (omega arith)
+]
 short_within (suc fuel) m b a fits u = elim (leaves m b a u) [
-    | inl s ↦ (0, rw s done, omega arith)
-    | inr (n, e, v) ↦
+  | inl s ↦ (0, rw s done, omega arith)
+  | inr (n, e, v) ↦
       let more = len_cut m a n e in
       let rest = short_within fuel (remove m a) b n.place.parent.0 (omega arith) v in
       (suc rest.0, step a rest.0 n e (steps_before_cut m a b n.place.parent.0 rest.0 rest.1), (let bound = rest.2 in omega arith))
-  ]
+]
 
 -- a chain has at most as many steps as there are nodes
 pub short_chain : (m : Nodes) (b a : ℕ) → IsUnder m a b → (k : ℕ) × Steps m b a k × (k ≤ len m)

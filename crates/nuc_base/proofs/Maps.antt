@@ -42,13 +42,13 @@ not_both m x n e f = cc
 pub after_put : (m : Nodes) (x : ℕ) (node : Node) (y : ℕ) (n : Node) → get (insert m x node) y ≡ Some n
     → ((y ≡ x) × (n ≡ node)) ⊎ ((y ≢ x) × (get m y ≡ Some n))
 after_put m x node y n e = elim (same_or_not y x) [
-    | inl s ↦ inl (s, one_node (insert m x node) x n node (subst (λ z. get (insert m x node) z ≡ Some n) s e) (get_put_same m x node))
-    | inr apart ↦ inr (apart, sym (get_put_other m x node y apart) ∙ e)
-  ]
+  | inl s ↦ inl (s, one_node (insert m x node) x n node (subst (λ z. get (insert m x node) z ≡ Some n) s e) (get_put_same m x node))
+  | inr apart ↦ inr (apart, sym (get_put_other m x node y apart) ∙ e)
+]
 
 -- who stands at y after a cut
 pub after_cut : (m : Nodes) (x y : ℕ) (n : Node) → get (remove m x) y ≡ Some n → (y ≢ x) × (get m y ≡ Some n)
 after_cut m x y n e = elim (same_or_not y x) [
-    | inl s ↦ absurd (not_both (remove m x) x n (get_cut_same m x) (subst (λ z. get (remove m x) z ≡ Some n) s e))
-    | inr apart ↦ (apart, sym (get_cut_other m x y apart) ∙ e)
-  ]
+  | inl s ↦ absurd (not_both (remove m x) x n (get_cut_same m x) (subst (λ z. get (remove m x) z ≡ Some n) s e))
+  | inr apart ↦ (apart, sym (get_cut_other m x y apart) ∙ e)
+]

@@ -1,4 +1,4 @@
-ghost use Rattle.std.specs.Prelude.{◌≡◌, ◌≢◌, ◌⊎◌, ◌≤◌, [], ◌∷◌, IfOk, MatchBool, MatchResult};
+ghost use Rattle.std.specs.Prelude.{◌≡◌, ◌≢◌, ◌⊎◌, ◌≤◌, [], ◌∷◌, length, IfOk, MatchBool, MatchResult};
 ghost use Rattle.std.specs.List.{take_while};
 ghost use Rattle.nuc_base.specs.Names.{IsName, is_plain, good_len};
 ghost use Rattle.nuc_base.specs.NameFaults.{NameFaulty};
@@ -34,19 +34,7 @@ impl Name {
     pub fn new(alloc: Global, bytes: &[u8]) -> Result<Name, NameFault>
         ensures { MatchResult result (λ n. (n ≡ bytes.now) × IsName bytes.now) (λ e. NameFaulty bytes.now e) }
     {
-        if bytes.is_empty() {
-            return Err(NameFault::Empty);
-        }
-        if bytes.len() > MAX_LEN {
-            return Err(NameFault::TooLong(bytes.len()));
-        }
-        let good = good_front(bytes);
-        if good < bytes.len() {
-            return Err(NameFault::BadByte(good));
-        }
-        if is_dots(bytes) {
-            return Err(NameFault::Dots);
-        }
+        check(bytes)?;
         let bytes = Vec::from_slice(alloc, bytes).map_err(|_| NameFault::Memory)?;
         Ok(Name { bytes })
     }
@@ -73,11 +61,32 @@ impl Name {
     }
 }
 
+fn check(bytes: &[u8]) -> Result<(), NameFault>
+    ensures { MatchResult result (λ _. IsName bytes.now) (λ e. NameFaulty bytes.now e) }
+{
+    if bytes.is_empty() {
+        return Err(NameFault::Empty);
+    }
+    if bytes.len() > MAX_LEN {
+        return Err(NameFault::TooLong(bytes.len()));
+    }
+    let good = good_front(bytes);
+    if good < bytes.len() {
+        return Err(NameFault::BadByte(good));
+    }
+    if is_dots(bytes) {
+        return Err(NameFault::Dots);
+    }
+    Ok(())
+}
+
 /// The length of the longest front of whole characters, none of which is NUL or `/`.
 fn good_front(bytes: &[u8]) -> usize
-    ensures { result ≡ good_len bytes.now }
+    ensures value { result ≡ good_len bytes.now }
+    ensures within { result ≤ length bytes.now }
 {
-    match str::from_utf8(plain_front(bytes)) {
+    let plain = plain_front(bytes);
+    match str::from_utf8(plain) {
         Ok(text) => text.len(),
         Err(fault) => fault.valid_up_to(),
     }
@@ -85,7 +94,8 @@ fn good_front(bytes: &[u8]) -> usize
 
 /// The bytes before the first NUL or `/`.
 fn plain_front(bytes: &[u8]) -> &[u8]
-    ensures { result.now ≡ take_while is_plain bytes.now }
+    ensures value { result.now ≡ take_while is_plain bytes.now }
+    ensures within { length result.now ≤ length bytes.now }
 {
     for (i, byte) in bytes.iter().enumerate() {
         if *byte == 0 || *byte == b'/' {

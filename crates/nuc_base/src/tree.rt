@@ -15,6 +15,7 @@ use std::alloc::{AllocError, Global};
 /// added before memory may be wanted.
 pub trait TreeLike {
     ghost nodes: { Self → Nodes };
+
     ghost spare: { Self → ℕ };
 
     /// The tree of nothing but the root.
@@ -95,9 +96,8 @@ pub trait TreeLike {
         if parent != NodeId(0) && !is_folder(self.get(parent)) {
             return Err(PutFault::NoParent);
         }
-        match self.at(parent, &node.place.name) {
-            Some(other) if other != id => return Err(PutFault::Taken(other)),
-            _ => {}
+        if let Some(other) = someone_else(self.at(parent, &node.place.name), id) {
+            return Err(PutFault::Taken(other));
         }
         if self.under(parent, id) {
             return Err(PutFault::Cycle);
@@ -121,5 +121,15 @@ fn is_folder(node: Option<&Node>) -> bool
     match node {
         Some(node) => node.kind == Kind::Folder,
         None => false,
+    }
+}
+
+/// The identity that was found, where it isn't `id`.
+fn someone_else(found: Option<NodeId>, id: NodeId) -> Option<NodeId>
+    ensures { MatchOption result (IfSome found (λ x. x.0 ≡ id.0)) (λ x. (found ≡ Some x) × (x.0 ≢ id.0)) }
+{
+    match found {
+        Some(other) if other != id => found,
+        _ => None,
     }
 }
