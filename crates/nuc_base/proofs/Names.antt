@@ -1,12 +1,12 @@
 -- Bytes all of which are good are text without NUL and `/`.
-use Rattle.std.proofs.Common.{◌≡◌, ◌<◌, ◌≤◌, ℕ, zero, suc, Bool, true, false, cond, List, [], ◌∷◌, length, take, refl, sym, ap, subst, ◌∙◌, arith}
+use Rattle.std.proofs.Common.{◌≡◌, ◌≤◌, ℕ, zero, suc, true, false, cond, List, [], ◌∷◌, length, take, refl, ap, subst, ◌∙◌, arith}
 use Rattle.std.specs.Prelude.{IsTrue}
 use Rattle.std.specs.List.{All, take_while}
 use Rattle.std.specs.Str.{IsUtf8, is_utf8}
 use Rattle.std.specs.Str.Lossy.{utf8_valid_len, valid_len_up_to}
 use Rattle.std.proofs.lemmas.List.{take_all}
 use Rattle.std.proofs.lemmas.List.Sums.{take_while-cons}
-use Rattle.std.proofs.lemmas.Str.{IsUtf8-nil, IsUtf8-from_is_utf8, is_utf8-from_IsUtf8, utf8_valid_len_le, utf8_valid_len-IsUtf8}
+use Rattle.std.proofs.lemmas.Str.{IsUtf8-nil, IsUtf8-from_is_utf8, is_utf8-from_IsUtf8, utf8_valid_len-IsUtf8}
 use Rattle.nuc_base.specs.Names.{IsName, is_plain, good_len}
 
 up_to_le : (bs : List ℕ) (n : ℕ) → valid_len_up_to bs n ≤ n
@@ -44,8 +44,8 @@ pub take_plain : (bs : List ℕ) → All (λ b. IsTrue (is_plain b)) bs → take
 take_plain [] all = refl
 take_plain (b ∷ bs) all =
     take_while-cons is_plain b bs
-      ∙ ap (λ t. cond t (b ∷ take_while is_plain bs) []) (all 0 b (omega arith))
-      ∙ ap (λ l. b ∷ l) (take_plain bs (λ k d lt. all (suc k) d (omega arith)))
+    ∙ ap (λ t. cond t (b ∷ take_while is_plain bs) []) (all 0 b (omega arith))
+    ∙ ap (λ l. b ∷ l) (take_plain bs (λ k d lt. all (suc k) d (omega arith)))
 
 pub name-good_len : (bs : List ℕ) → IsName bs → good_len bs ≡ length bs
 name-good_len bs name = ap utf8_valid_len (take_plain bs name.plain) ∙ utf8_valid_len-IsUtf8 bs name.text
