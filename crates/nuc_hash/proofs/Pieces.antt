@@ -1,12 +1,10 @@
 -- How the pieces of a list come off its front.
-use Rattle.std.proofs.Common.{◌≡◌, ℕ, suc, ◌+◌, ◌-◌, ◌*◌, ◌/◌, ◌<◌, ◌≤◌, min, List, [], ◌∷◌, ◌++◌, length, take, drop, refl, subst, sym, ◌∙◌, ap, inl, inr, arith, length-append, append-nil}
+use Rattle.std.proofs.Common.{◌≡◌, ℕ, suc, ◌+◌, ◌-◌, ◌*◌, ◌/◌, ◌<◌, min, List, [], ◌∷◌, ◌++◌, length, take, drop, refl, subst, inl, inr, arith, length-append, append-nil}
 use Rattle.std.proofs.Math.Nat.{add-div_left}
 use Rattle.std.proofs.lemmas.Nat.{div-mul-add}
 use Rattle.std.proofs.lemmas.Bool.{cases_lt}
 use Rattle.std.proofs.lemmas.List.{nil_from_length, take_all}
 use Rattle.std.proofs.Math.Seq.{take-append_seam, drop-append_seam}
-use Rattle.std.proofs.lemmas.Grind.{common_steps}
-use Rattle.std.specs.Simd.{first_chunks}
 use Rattle.nuc_hash.specs.Content.{pieces, blocks_of}
 use Rattle.nuc_hash.specs.declared.content.TheConstants.{BLOCK}
 
@@ -52,10 +50,10 @@ pub pieces-append : (n : ℕ) (piece rest : List ℕ) → 0 < n → 0 < length (
 pieces-append n piece rest positive some size =
     let total = length-append piece rest in
     elim (cases_lt (length (piece ++ rest)) n) [
-      inl short ↦
-        let none : rest ≡ [] = nil_from_length rest (omega (arith, total, size)) in
-        rw (none, append-nil piece, pieces-none n positive) (pieces_short n piece (omega (arith, total, size)) (omega (arith, total, size)))
-    | inr whole ↦ pieces_whole n piece rest positive (omega (arith, size))
+      | inl short ↦
+          let none : rest ≡ [] = nil_from_length rest (omega (arith, total, size)) in
+          rw (none, append-nil piece, pieces-none n positive) (pieces_short n piece (omega (arith, total, size)) (omega (arith, total, size)))
+      | inr whole ↦ pieces_whole n piece rest positive (omega (arith, size))
     ]
 
 pub blocks_of-none : blocks_of [] ≡ []

@@ -25,7 +25,10 @@ impl Filling {
         ensures { IfOk result (λ filling. filling ≡ self.now) }
     {
         match self {
-            Filling::Given(bytes) => Ok(Filling::Given(Items::from_slice(alloc, bytes.as_slice())?)),
+            Filling::Given(bytes) => {
+                let bytes = Items::from_slice(alloc, bytes.as_slice())?;
+                Ok(Filling::Given(bytes))
+            }
         }
     }
 }

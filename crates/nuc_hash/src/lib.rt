@@ -8,3 +8,6 @@ mod filling;
 pub use content::{BLOCK, Content, content_of};
 pub use digest::{Digest, hash_text};
 pub use filling::Filling;
+
+#[cfg(test)]
+mod tests;

@@ -1,4 +1,4 @@
-use Rattle.std.proofs.Common.{◌≡◌, List, [], ◌∷◌, ◌++◌, map, sym, subst, ◌∙◌, ap, append_assoc, append-nil, arith, ◌<◌, length, min}
+use Rattle.std.proofs.Common.{◌≡◌, [], ◌∷◌, ◌++◌, map, ◌∙◌, ap, append_assoc, append-nil, ◌<◌, length, min}
 use Rattle.std.specs.Slice.Iter.{chunks_rest}
 use Rattle.std.proofs.lemmas.List.{nil_from_length}
 use Rattle.nuc_hash.specs.Content.{blocks_of, digest_of}
@@ -15,7 +15,7 @@ loop-block-preserved c =
     let some : 0 < length (block ++ rest) = rw steps.1.0 at steps.1.2 in
     let size : length block ≡ min BLOCK (length (block ++ rest)) = rw (c.loop-block.invariant.size, steps.1.0) at steps.1.1 in
     let split : map digest_of (blocks_of (chunks_rest c.loop-block.block-iterator)) ≡ digest_of block ∷ map digest_of (blocks_of rest) =
-        ap (λ bytes. map digest_of (blocks_of bytes)) steps.1.0 ∙ ap (map digest_of) (blocks_of-append block rest some size) in
+    ap (λ bytes. map digest_of (blocks_of bytes)) steps.1.0 ∙ ap (map digest_of) (blocks_of-append block rest some size) in
     let before = rw split at c.loop-block.invariant.digests in
     record {
       size = steps.0 ∙ c.loop-block.invariant.size;

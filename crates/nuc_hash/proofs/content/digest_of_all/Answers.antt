@@ -1,4 +1,4 @@
-use Rattle.std.proofs.Common.{[], take, length, ap, sym, ◌∙◌, arith, ◌≡◌}
+use Rattle.std.proofs.Common.{[], take, ap, ◌≡◌}
 use Rattle.std.proofs.lemmas.List.{take_all}
 use Rattle.nuc_hash.specs.Content.{digest_of, joined}
 use Rattle.nuc_hash.proofs.Joined.{joined-take-more}
