@@ -2,5 +2,7 @@
 #![tactic(auto)]
 
 mod edit;
+mod edits;
 
 pub use edit::{Edit, EditKind};
+pub use edits::Edits;
