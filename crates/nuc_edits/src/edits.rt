@@ -7,7 +7,7 @@ use sqlite_items::Items;
 use std::alloc::{AllocError, Global};
 use std::marker::Model;
 
-/// The recorded edits, in the order in which they were entered. Their versions ascend.
+/// The recorded edits, in the order in which they were entered.
 #[derive(Debug, Drop)]
 pub struct Edits {
     entries: Items<Edit>,
@@ -53,7 +53,12 @@ impl Edits {
     {
         let next_ver = ids.next_ver.checked_add(1).ok_or(AllocError)?;
         let ver = Ver(ids.next_ver);
-        self.entries.push(Edit { ver, id, base, what })?;
+        self.entries.push(Edit {
+            ver,
+            id,
+            base,
+            what,
+        })?;
         ids.next_ver = next_ver;
         Ok(ver)
     }

@@ -6,3 +6,6 @@ mod edits;
 
 pub use edit::{Edit, EditKind};
 pub use edits::Edits;
+
+#[cfg(test)]
+mod tests;
