@@ -1,4 +1,4 @@
-use Rattle.std.specs.Prelude.{◌≡◌, ℕ, ◌==◌, Bool, List, Option, Some, None, IsSome, find, map}
+use Rattle.std.specs.Prelude.{◌≡◌, ℕ, ◌==◌, Bool, List, Some, None, IsSome, find}
 use Rattle.std.specs.Option.{option_map}
 use Rattle.nuc_hash.specs.Content.{content_of}
 use Rattle.nuc_folder.specs.Folder.{FileData}

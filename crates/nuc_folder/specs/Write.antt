@@ -1,6 +1,5 @@
-use Rattle.std.specs.Prelude.{◌≡◌, ℕ, zero, suc, ◌+◌, Bool, List, [], ◌∷◌, Option, Some, None, position, insert}
+use Rattle.std.specs.Prelude.{◌≡◌, ℕ, zero, suc, ◌+◌, Bool, List, [], ◌∷◌, Option, Some, None, length, position, unwrap_or, insert}
 use Rattle.std.specs.Cmp.Lexicographic.{slice_cmp}
-use Rattle.std.specs.List.{position_or_len}
 use Rattle.std.specs.Ordering.{nat_cmp, is_lt}
 use Rattle.nuc_base.specs.SamePlace.{is_same_name}
 use Rattle.nuc_hash.specs.Filling.{filling_bytes}
@@ -24,9 +23,13 @@ refilled index bytes [] = []
 refilled zero bytes (file ∷ files) = record file { bytes = bytes } ∷ files
 refilled (suc index) bytes (file ∷ files) = file ∷ refilled index bytes files
 
--- the files with one more, before the first that is listed after its name
+-- where a file of a new name goes: before the first that is listed after the name, else at the end
+abbrev pub place_of : List ℕ → List FileData → ℕ
+place_of name files = unwrap_or (position (comes_after name) files) (length files)
+
+-- the files with one more, at its place
 abbrev pub with_file : FileData → List FileData → List FileData
-with_file file files = insert files (position_or_len (comes_after file.name) files) file
+with_file file files = insert files (place_of file.name files) file
 
 -- the folder after these bytes are written: to the file at that index, or to a new file
 abbrev pub written_at : Option ℕ → List ℕ → List ℕ → FolderData → FolderData

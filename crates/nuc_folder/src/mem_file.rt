@@ -29,7 +29,8 @@ impl Model for MemFile {
     ghost invariant = { λ f. f.content ≡ content_of f.bytes };
 }
 
-ghost use Rattle.nuc_folder.specs.Listing.{item_of};
+ghost use Rattle.nuc_folder.specs.Listing.{has_key, item_of};
+ghost use Rattle.nuc_folder.specs.Write.{comes_after, has_name};
 
 impl MemFile {
     pub fn new(alloc: Global, key: Key, name: &Name, bytes: &[u8]) -> Result<MemFile, AllocError>
@@ -43,22 +44,29 @@ impl MemFile {
         })
     }
 
-    pub fn key(&self) -> Key
-        ensures { result.0 ≡ self.now.key }
-    {
-        self.key
-    }
-
-    pub fn name(&self) -> &Name
-        ensures { result.now ≡ self.now.name }
-    {
-        &self.name
-    }
-
     pub fn bytes(&self) -> &[u8]
         ensures { result.now ≡ self.now.bytes }
     {
         self.bytes.as_slice()
+    }
+
+    pub fn has_key(&self, key: Key) -> bool
+        ensures { result ≡ has_key key.0 self.now }
+    {
+        self.key == key
+    }
+
+    pub fn has_name(&self, name: &Name) -> bool
+        ensures { result ≡ has_name name.now self.now }
+    {
+        self.name.same(name)
+    }
+
+    /// Whether the file is listed after this name.
+    pub fn comes_after(&self, name: &Name) -> bool
+        ensures { result ≡ comes_after name.now self.now }
+    {
+        name.bytes().cmp(self.name.bytes()).is_lt()
     }
 
     /// Replaces the bytes.

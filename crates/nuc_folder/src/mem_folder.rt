@@ -1,5 +1,6 @@
-ghost use Rattle.std.specs.Prelude.{◌≡◌, ◌<◌, ◌≤◌, [], length, map, position, IfOk, OnOk, OnErr};
-ghost use Rattle.std.specs.List.{position_or_len};
+ghost use Rattle.std.specs.Prelude.{◌≡◌, ◌<◌, ◌≤◌, [], length, map, position, IfOk, OnOk, OnErr, IfSome, None};
+ghost use Rattle.std.specs.List.{find};
+ghost use Rattle.std.specs.Option.{option_copied};
 
 use crate::mem_file::MemFile;
 use crate::{Item, Key, ReadBack, UserEdit, UserReply};
@@ -23,8 +24,8 @@ impl Model for MemFolder {
     ghost view = { λ f. record { files = f.files.items; next_key = f.next_key } };
 }
 
-ghost use Rattle.nuc_folder.specs.Listing.{item_of, Reads};
-ghost use Rattle.nuc_folder.specs.Write.{Answers, comes_after, has_name, written};
+ghost use Rattle.nuc_folder.specs.Listing.{has_key, item_of, Reads};
+ghost use Rattle.nuc_folder.specs.Write.{Answers, comes_after, has_name, place_of, refilled, written, written_at};
 
 impl MemFolder {
     /// An empty folder, in no memory.
@@ -57,12 +58,15 @@ impl MemFolder {
         ensures err { OnErr result (self.new ≡ self.old) }
     {
         match position_of(&self.files, name) {
-            Some(index) => self.files[index].refill(alloc, bytes),
+            Some(index) => refill_at(&mut self.files, index, alloc, bytes),
             None => self.make(alloc, name, bytes),
         }
     }
 
-    fn make(&mut self, alloc: Global, name: &Name, bytes: &[u8]) -> Result<(), AllocError> {
+    fn make(&mut self, alloc: Global, name: &Name, bytes: &[u8]) -> Result<(), AllocError>
+        ensures ok { OnOk result (self.new ≡ written_at None name.now bytes.now self.old) }
+        ensures err { OnErr result (self.new ≡ self.old) }
+    {
         let next_key = self.next_key.checked_add(1).ok_or(AllocError)?;
         let file = MemFile::new(alloc, Key(self.next_key), name, bytes)?;
         let index = place_of(&self.files, name);
@@ -86,7 +90,7 @@ impl MemFolder {
     pub fn read(&self, alloc: Global, key: Key) -> ReadBack
         ensures { Reads self.now.files key.0 result }
     {
-        match self.files.iter().find(|file| file.key() == key) {
+        match file_of(&self.files, key) {
             Some(file) => match Items::from_slice(alloc, file.bytes()) {
                 Ok(bytes) => ReadBack::Bytes(bytes),
                 Err(_) => ReadBack::Memory,
@@ -100,14 +104,40 @@ impl MemFolder {
 fn position_of(files: &[MemFile], name: &Name) -> Option<usize>
     ensures { result ≡ position (has_name name.now) files.now }
 {
-    files.iter().position(|file| file.name().same(name))
+    files.iter().position(|file| file.has_name(name))
 }
 
 /// Where a new file of this name goes.
 fn place_of(files: &[MemFile], name: &Name) -> usize
-    ensures value { result ≡ position_or_len (comes_after name.now) files.now }
+    ensures value { result ≡ place_of name.now files.now }
     ensures within { result ≤ length files.now }
 {
-    let after = files.iter().position(|file| name.bytes() < file.name().bytes());
-    after.unwrap_or(files.len())
+    first_after(files, name).unwrap_or(files.len())
+}
+
+fn first_after(files: &[MemFile], name: &Name) -> Option<usize>
+    ensures value { result ≡ position (comes_after name.now) files.now }
+    ensures within { IfSome result (λ index. index < length files.now) }
+{
+    files.iter().position(|file| file.comes_after(name))
+}
+
+fn file_of(files: &[MemFile], key: Key) -> Option<&MemFile>
+    ensures { option_copied result ≡ find (has_key key.0) files.now }
+{
+    files.iter().find(|file| file.has_key(key))
+}
+
+fn refill_at(
+    files: &mut [MemFile],
+    index: usize,
+    alloc: Global,
+    bytes: &[u8],
+) -> Result<(), AllocError>
+    requires { index < length files.old }
+    ensures ok { OnOk result (files.new ≡ refilled index bytes.now files.old) }
+    ensures err { OnErr result (files.new ≡ files.old) }
+{
+    files[index].refill(alloc, bytes)?;
+    Ok(())
 }
