@@ -1,0 +1,5 @@
+pub mod Formed
+pub mod Inserts
+pub mod Refilled
+pub mod Tests
+pub mod Written
