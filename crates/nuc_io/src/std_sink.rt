@@ -11,10 +11,9 @@ pub struct StdSink<W> {
     faults: u64,
 }
 
-impl<W> StdSink<W> {
+impl<W: Write> StdSink<W> {
     pub fn new(writer: W) -> StdSink<W>
-        ensures writer { result.writer ≡ writer }
-        ensures fresh { result.faults ≡ 0 }
+        ensures { ⟦<StdSink<W> as Sink>⟧.faults result ≡ 0 }
     {
         StdSink { writer, faults: 0 }
     }

@@ -12,10 +12,10 @@ pub struct StdSource<R> {
     faults: u64,
 }
 
-impl<R> StdSource<R> {
+impl<R: Read> StdSource<R> {
     pub fn new(reader: R) -> StdSource<R>
-        ensures reader { result.reader ≡ reader }
-        ensures fresh { (result.ended ≡ false) × (result.faults ≡ 0) }
+        ensures open { ¬ (⟦<StdSource<R> as Source>⟧.ended result) }
+        ensures faults { ⟦<StdSource<R> as Source>⟧.faults result ≡ 0 }
     {
         StdSource {
             reader,
