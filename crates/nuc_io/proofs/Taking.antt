@@ -46,3 +46,8 @@ copied bytes front tail at count short same long =
 -- a byte that is no LF keeps one line
 pub one_line_more : (bytes : List ℕ) (b : ℕ) → IsOneLine bytes → b ≢ 10 → IsOneLine (bytes ++ b ∷ [])
 one_line_more bytes b one_line other = All-push (λ x. x ≢ 10) bytes b one_line other
+
+-- to leave all as it is takes nothing
+pub took_none : (left : Option (List ℕ)) → Took left [] left
+took_none None = refl
+took_none (Some all) = (all, refl, refl)
