@@ -1,16 +1,16 @@
 -- What the lines of commands look like, and that no two commands have one line.
-use Rattle.std.proofs.Common.{◌≡◌, ◌≢◌, ◌⊎◌, ℕ, ◌+◌, ◌≤◌, ◌<◌, List, [], ◌∷◌, ◌++◌, length, drop, get_or, Option, Some, None, Result, Ok, Err, IfOk, codes, refl, sym, ap, subst, ◌∙◌, inl, inr, arith}
+use Rattle.std.proofs.Common.{◌≡◌, ◌≢◌, ◌⊎◌, ℕ, ◌≤◌, List, [], ◌∷◌, ◌++◌, length, get_or, Option, Some, None, Result, Ok, Err, IfOk, codes, refl, sym, ap, subst, ◌∙◌, inl, inr, arith}
 use Rattle.std.specs.Prelude.{decimal}
-use Rattle.std.proofs.lemmas.List.{append-nil, append_cancel_left, append_cancel_right}
+use Rattle.std.proofs.lemmas.List.{append-nil, append_cancel_left}
 use Rattle.std.proofs.lemmas.Fmt.{decimal_digit}
-use Rattle.nuc_base.specs.Names.{IsName, good_len}
+use Rattle.nuc_base.specs.Names.{IsName}
 use Rattle.nuc_base.specs.NameFaults.{NameFaulty}
 use Rattle.nuc_base.specs.declared.name_fault.NameFault.{NameFault}
 use Rattle.nuc_base.specs.declared.name_fault.NameFault.TheVariants as fault
 use Rattle.nuc_hash.specs.declared.filling.Filling.TheVariants as filling
 use Rattle.nuc_folder.specs.declared.user.UserEdit.TheVariants as edit
-use Rattle.nuc_script.specs.Text.{command_line, command_text}
-use Rattle.nuc_script.specs.Grammar.{IsPlain, IsPlainByte, IsPlainPath, IsBuilt, IsCommand}
+use Rattle.nuc_script.specs.Text.{command_line}
+use Rattle.nuc_script.specs.Grammar.{IsPlain, IsPlainPath, IsBuilt, IsCommand}
 use Rattle.nuc_script.specs.Steps.{StartsOther, written, IsWritten, write_of, WriteMeans, Means}
 use Rattle.nuc_script.specs.declared.command.Command.{Command}
 use Rattle.nuc_script.specs.declared.command.Command.TheVariants as command

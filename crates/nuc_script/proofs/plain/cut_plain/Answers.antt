@@ -1,4 +1,3 @@
-use Rattle.std.proofs.Common.{get_or}
 use Rattle.std.proofs.lemmas.List.Elements.{All-more}
 use Rattle.nuc_script.specs.Grammar.{IsPlainByte}
 use Rattle.nuc_script.proofs.plain.cut_plain.Goals as goal

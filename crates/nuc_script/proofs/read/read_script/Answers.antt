@@ -1,11 +1,10 @@
-use Rattle.std.proofs.Common.{◌≡◌, ◌≢◌, ◌+◌, ◌++◌, ◌∷◌, [], ap, arith, length, refl, subst, sym, append-nil, length-append}
+use Rattle.std.proofs.Common.{◌≡◌, ◌≢◌, ◌++◌, ◌∷◌, [], ap, arith, length, subst, sym, length-append}
 use Rattle.std.proofs.lemmas.Grind.{common_steps}
 use Rattle.nuc_io.specs.Reading.{Took}
 use Rattle.nuc_io.proofs.Taking.{took_more}
 use Rattle.nuc_script.specs.Grammar.{IsScript, IsCommand, MayFollow}
 use Rattle.nuc_script.specs.declared.command.Command.{Command}
 use Rattle.nuc_script.specs.Text.{command_text, script_text}
-use Rattle.nuc_script.specs.Steps.{TookLine}
 use Rattle.nuc_script.proofs.Scripts.{few_lines, line_short, cut_short, bad_line, script_grows, script_more, script_short, took_no_line}
 use Rattle.nuc_script.proofs.read.read_script.Goals as goal
 
