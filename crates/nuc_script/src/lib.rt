@@ -1,0 +1,16 @@
+//! Scripts: a line for each command, read strictly.
+#![tactic(auto)]
+
+mod command;
+mod follow;
+mod line;
+mod plain;
+mod read;
+mod script_read;
+
+pub use command::Command;
+pub use read::read_script;
+pub use script_read::ScriptRead;
+
+#[cfg(test)]
+mod tests;

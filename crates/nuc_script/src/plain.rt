@@ -1,0 +1,23 @@
+ghost use Rattle.std.specs.Prelude.{◌≡◌, ◌++◌, MatchBool};
+ghost use Rattle.nuc_script.specs.Grammar.{IsPlain, IsPlainByte};
+ghost use Rattle.nuc_script.specs.Steps.{StartsOther};
+
+/// Cuts the text before the first byte that isn't plain.
+pub fn cut_plain(text: &[u8]) -> (&[u8], &[u8])
+    ensures all { text.now ≡ result.0.now ++ result.1.now }
+    ensures front { IsPlain result.0.now }
+    ensures rest { StartsOther result.1.now }
+{
+    for (i, byte) in text.iter().enumerate() {
+        if !is_plain_byte(*byte) {
+            return text.split_at(i);
+        }
+    }
+    text.split_at(text.len())
+}
+
+fn is_plain_byte(byte: u8) -> bool
+    ensures { MatchBool result (IsPlainByte byte) (¬ (IsPlainByte byte)) }
+{
+    matches!(byte, b'!'..=b'~') && byte != b'%'
+}
