@@ -1,0 +1,5 @@
+pub mod Chains
+pub mod Forms
+pub mod Maps
+pub mod Places
+pub mod Tests

@@ -3,10 +3,16 @@
 
 mod fault;
 mod name;
+mod name_fault;
 mod node;
 mod path;
+mod tree;
+mod tree_fault;
 
 pub use fault::LineFault;
 pub use name::Name;
+pub use name_fault::NameFault;
 pub use node::{Counters, Kind, Node, NodeId, Place, Ver};
 pub use path::Path;
+pub use tree::TreeLike;
+pub use tree_fault::{CutFault, PutFault};

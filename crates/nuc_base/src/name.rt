@@ -1,6 +1,16 @@
-ghost use Rattle.std.specs.Prelude.{◌≡◌};
+ghost use Rattle.std.specs.Prelude.{◌≡◌, ◌≢◌, ◌⊎◌, ◌≤◌, [], ◌∷◌, length, IfOk, MatchBool, MatchResult};
+ghost use Rattle.std.specs.List.{take_while};
+ghost use Rattle.nuc_base.specs.Names.{IsName, is_plain, good_len};
+ghost use Rattle.nuc_base.specs.NameFaults.{NameFaulty};
+ghost use Rattle.nuc_base.specs.SamePlace.{SameName};
 
+use crate::NameFault;
+use std::alloc::{AllocError, Global};
 use std::marker::Model;
+use std::str;
+
+/// The most bytes of a name.
+const MAX_LEN: usize = 255;
 
 /// The name of a file or folder: 1 to 255 bytes of UTF-8, without `/` and NUL, and neither `.` nor `..`.
 #[derive(Debug, Drop)]
@@ -10,16 +20,93 @@ pub struct Name {
 
 impl Model for Name {
     ghost use Rattle.std.specs.Prelude.{List, ℕ};
+    ghost use Rattle.nuc_base.specs.Names.{IsName};
 
     ghost Value = { List ℕ };
 
     ghost view = { λ n. n.bytes.items };
+
+    ghost invariant = { λ n. IsName n.bytes.items };
 }
 
 impl Name {
+    /// The name of these bytes. The faults come in the order in which `NameFault` lists them.
+    pub fn new(alloc: Global, bytes: &[u8]) -> Result<Name, NameFault>
+        ensures { MatchResult result (λ n. (n ≡ bytes.now) × IsName bytes.now) (λ e. NameFaulty bytes.now e) }
+    {
+        check(bytes)?;
+        let bytes = Vec::from_slice(alloc, bytes).map_err(|_| NameFault::Memory)?;
+        Ok(Name { bytes })
+    }
+
     pub fn bytes(&self) -> &[u8]
-        ensures { result.now ≡ self.now }
+        ensures value { result.now ≡ self.now }
+        ensures name { IsName self.now }
     {
         &self.bytes
     }
+
+    pub fn copy(&self, alloc: Global) -> Result<Name, AllocError>
+        ensures { IfOk result (λ n. n ≡ self.now) }
+    {
+        let bytes = Vec::from_slice(alloc, &self.bytes)?;
+        Ok(Name { bytes })
+    }
+
+    /// Whether two siblings can't have these two names.
+    pub fn same(&self, other: &Name) -> bool
+        ensures { MatchBool result (SameName self.now other.now) (¬ (SameName self.now other.now)) }
+    {
+        self.bytes() == other.bytes()
+    }
+}
+
+fn check(bytes: &[u8]) -> Result<(), NameFault>
+    ensures { MatchResult result (λ _. IsName bytes.now) (λ e. NameFaulty bytes.now e) }
+{
+    if bytes.is_empty() {
+        return Err(NameFault::Empty);
+    }
+    if bytes.len() > MAX_LEN {
+        return Err(NameFault::TooLong(bytes.len()));
+    }
+    let good = good_front(bytes);
+    if good < bytes.len() {
+        return Err(NameFault::BadByte(good));
+    }
+    if is_dots(bytes) {
+        return Err(NameFault::Dots);
+    }
+    Ok(())
+}
+
+/// The length of the longest front of whole characters, none of which is NUL or `/`.
+fn good_front(bytes: &[u8]) -> usize
+    ensures value { result ≡ good_len bytes.now }
+    ensures within { result ≤ length bytes.now }
+{
+    let plain = plain_front(bytes);
+    match str::from_utf8(plain) {
+        Ok(text) => text.len(),
+        Err(fault) => fault.valid_up_to(),
+    }
+}
+
+/// The bytes before the first NUL or `/`.
+fn plain_front(bytes: &[u8]) -> &[u8]
+    ensures value { result.now ≡ take_while is_plain bytes.now }
+    ensures within { length result.now ≤ length bytes.now }
+{
+    for (i, byte) in bytes.iter().enumerate() {
+        if *byte == 0 || *byte == b'/' {
+            return &bytes[..i];
+        }
+    }
+    bytes
+}
+
+fn is_dots(bytes: &[u8]) -> bool
+    ensures { MatchBool result ((bytes.now ≡ 46 ∷ []) ⊎ (bytes.now ≡ 46 ∷ 46 ∷ [])) ((bytes.now ≢ 46 ∷ []) × (bytes.now ≢ 46 ∷ 46 ∷ [])) }
+{
+    matches!(bytes, b"." | b"..")
 }

@@ -1,4 +1,7 @@
+ghost use Rattle.std.specs.Prelude.{◌≡◌, IfOk};
+
 use crate::Name;
+use std::alloc::{AllocError, Global};
 
 /// The identity of a file or folder, which it keeps wherever it moves. The root of every tree is 0, and has no node.
 #[derive(Clone, Copy, Debug, PartialEq, Eq, PartialOrd, Ord, Hash)]
@@ -22,6 +25,18 @@ pub struct Place {
     pub name: Name,
 }
 
+impl Place {
+    pub fn copy(&self, alloc: Global) -> Result<Place, AllocError>
+        ensures { IfOk result (λ p. p ≡ self.now) }
+    {
+        let name = self.name.copy(alloc)?;
+        Ok(Place {
+            parent: self.parent,
+            name,
+        })
+    }
+}
+
 /// A file or folder of a tree.
 #[derive(Debug, Drop)]
 pub struct Node {
@@ -30,6 +45,20 @@ pub struct Node {
     pub ver: Ver,
     /// Whether a file may be executed; a folder never has it.
     pub bit: bool,
+}
+
+impl Node {
+    pub fn copy(&self, alloc: Global) -> Result<Node, AllocError>
+        ensures { IfOk result (λ n. n ≡ self.now) }
+    {
+        let place = self.place.copy(alloc)?;
+        Ok(Node {
+            place,
+            kind: self.kind,
+            ver: self.ver,
+            bit: self.bit,
+        })
+    }
 }
 
 /// The next identity and the next version that nobody has had yet.

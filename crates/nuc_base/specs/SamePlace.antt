@@ -1,0 +1,44 @@
+-- When two names are one name among siblings, and two places one place. The meaning of `SameName` is sealed here:
+-- other proofs use the lemmas below, and only that of `Name::same` the last one.
+use Rattle.std.specs.Prelude.{◌≡◌, ℕ, List, refl}
+use Rattle.std.proofs.Common.{sym, ◌∙◌}
+use Rattle.nuc_base.specs.declared.node.Place.{Place}
+
+-- today equality of bytes
+pub SameName : List ℕ → List ℕ → Type 0
+SameName a b = a ≡ b
+
+pub record SamePlace (p q : Place) : Type 0 where
+  pub parent : p.parent.0 ≡ q.parent.0
+  pub name : SameName p.name q.name
+
+pub same_name-refl : (a : List ℕ) → SameName a a
+unfolding SameName
+same_name-refl a = refl
+
+pub same_name-sym : (a b : List ℕ) → SameName a b → SameName b a
+unfolding SameName
+same_name-sym a b s = sym s
+
+pub same_name-trans : (a b c : List ℕ) → SameName a b → SameName b c → SameName a c
+unfolding SameName
+same_name-trans a b c s t = s ∙ t
+
+pub same_place-refl : (p : Place) → SamePlace p p
+same_place-refl p = record { parent = refl; name = same_name-refl p.name }
+
+pub same_place-sym : (p q : Place) → SamePlace p q → SamePlace q p
+same_place-sym p q s = record { parent = sym s.parent; name = same_name-sym _ _ s.name }
+
+pub same_place-trans : (p q r : Place) → SamePlace p q → SamePlace q r → SamePlace p r
+same_place-trans p q r s t = record { parent = s.parent ∙ t.parent; name = same_name-trans _ _ _ s.name t.name }
+
+-- equal bytes are the same name
+pub equal_names-same : (a b : List ℕ) → a ≡ b → SameName a b
+unfolding SameName
+equal_names-same a b e = e
+
+-- for the proof of `Name::same` alone
+pub same_name-equal : (a b : List ℕ) → SameName a b → a ≡ b
+unfolding SameName
+same_name-equal a b s = s
