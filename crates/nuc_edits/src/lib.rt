@@ -2,5 +2,10 @@
 #![tactic(auto)]
 
 mod edit;
+mod edits;
 
 pub use edit::{Edit, EditKind};
+pub use edits::Edits;
+
+#[cfg(test)]
+mod tests;

@@ -1,10 +1,16 @@
-ghost use Rattle.std.specs.Prelude.{◌≡◌};
+ghost use Rattle.std.specs.Prelude.{◌≡◌, length, map, slice_get, IfOk};
+ghost use Rattle.std.specs.Option.{option_copied};
 
 use crate::Digest;
+use sha2::{Digest as _, Sha256};
 use sqlite_items::Items;
+use std::alloc::{AllocError, Global};
 use std::marker::Model;
 
-/// What is known of a file's bytes.
+/// How many bytes each block but the last has: 4 MiB, as in Dropbox's `content_hash`.
+pub const BLOCK: usize = 4_194_304;
+
+/// What is known of a file's bytes: their number, the SHA-256 of each block, and the hash that stands for all of them.
 #[derive(Debug, Drop)]
 pub struct Content {
     hash: Digest,
@@ -20,8 +26,10 @@ impl Model for Content {
     ghost view = { λ c. record { hash = c.hash; size = c.size; blocks = c.blocks } };
 }
 
+ghost use Rattle.nuc_hash.specs.Content.{blocks_of, content_of, digest_of, joined};
+
 impl Content {
-    /// The digest that stands for the content.
+    /// The SHA-256 of the blocks' digests, one after the other. It stands for the content.
     pub fn hash(&self) -> &Digest
         ensures { result.now ≡ self.now.hash }
     {
@@ -34,4 +42,59 @@ impl Content {
     {
         self.size
     }
+
+    /// The digest of the block at `index`, from 0.
+    pub fn block(&self, index: usize) -> Option<&Digest>
+        ensures { option_copied result ≡ slice_get self.now.blocks index }
+    {
+        self.blocks.get(index)
+    }
+
+    pub fn block_count(&self) -> usize
+        ensures { result ≡ length self.now.blocks }
+    {
+        self.blocks.len()
+    }
+
+    pub fn copy(&self, alloc: Global) -> Result<Content, AllocError>
+        ensures { IfOk result (λ content. content ≡ self.now) }
+    {
+        Ok(Content {
+            hash: self.hash,
+            size: self.size,
+            blocks: Items::from_slice(alloc, self.blocks.as_slice())?,
+        })
+    }
+}
+
+/// Hashes each block once, and keeps none of the bytes.
+pub fn content_of(alloc: Global, bytes: &[u8]) -> Result<Content, AllocError>
+    ensures { IfOk result (λ content. content ≡ content_of bytes.now) }
+{
+    let blocks = block_digests(alloc, bytes)?;
+    Ok(Content {
+        hash: digest_of_all(blocks.as_slice()),
+        size: bytes.len() as u64,
+        blocks,
+    })
+}
+
+fn block_digests(alloc: Global, bytes: &[u8]) -> Result<Items<Digest>, AllocError>
+    ensures { IfOk result (λ digests. digests ≡ map digest_of (blocks_of bytes.now)) }
+{
+    let mut digests = Items::new(alloc);
+    for block in bytes.chunks(BLOCK) {
+        digests.push(Digest(Sha256::digest(block)))?;
+    }
+    Ok(digests)
+}
+
+fn digest_of_all(digests: &[Digest]) -> Digest
+    ensures { result ≡ digest_of (joined digests.now) }
+{
+    let mut hasher = Sha256::new();
+    for digest in digests {
+        hasher.update(digest.0);
+    }
+    Digest(hasher.finalize())
 }

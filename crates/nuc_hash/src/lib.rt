@@ -5,6 +5,9 @@ mod content;
 mod digest;
 mod filling;
 
-pub use content::Content;
-pub use digest::Digest;
+pub use content::{BLOCK, Content, content_of};
+pub use digest::{Digest, hash_text};
 pub use filling::Filling;
+
+#[cfg(test)]
+mod tests;
