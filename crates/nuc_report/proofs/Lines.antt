@@ -1,4 +1,7 @@
-use Rattle.std.proofs.Common.{◌≡◌, ◌≢◌, refl, ap, sym, ◌∙◌, ℕ, List, [], ◌∷◌, ◌++◌, append_assoc}
+use Rattle.std.proofs.Common.{◌≡◌, ◌≢◌, refl, ap, sym, ◌∙◌, ℕ, List, [], ◌∷◌, ◌++◌, append_assoc, Option, Some, None, codes}
+use Rattle.std.specs.Fmt.{decimal}
+use Rattle.nuc_hash.specs.Content.{ContentData}
+use Rattle.nuc_folder.specs.declared.item.Item.{Item}
 use Rattle.nuc_step.specs.declared.event.Event.{Event}
 use Rattle.nuc_step.specs.declared.event.Event.TheVariants as event
 use Rattle.nuc_step.specs.declared.reply.Reply.{Reply}
@@ -10,8 +13,8 @@ use Rattle.nuc_step.specs.declared.reply.TakeReply.TheVariants as take
 use Rattle.nuc_step.specs.declared.reply.DoneReply.TheVariants as done
 use Rattle.nuc_step.specs.declared.reply.MarkReply.TheVariants as mark
 use Rattle.nuc_step.specs.declared.log.LogEntry.TheVariants.{Stepped}
-use Rattle.nuc_report.specs.Line.{joined, line}
-use Rattle.nuc_report.specs.Entry.{event_words, reply_words, reply_lines, entry_text}
+use Rattle.nuc_report.specs.Line.{joined, line, escaped}
+use Rattle.nuc_report.specs.Entry.{content_words, item_line, event_words, reply_words, reply_lines, entry_text}
 
 line-joined : (words : List (List ℕ)) → words ≢ [] → line words ≡ joined words ++ 10 ∷ []
 line-joined [] some = absurd (some refl)
@@ -58,3 +61,15 @@ step_text event reply happened answer lines text h a l t =
     let one : line (event_words event ++ reply_words reply) ≡ happened ++ (32 ∷ (answer ++ 10 ∷ [])) =
       rw (h, a, line-append _ _ (event_has_words event) (reply_has_words reply), line-joined _ (reply_has_words reply)) refl in
     rw (one, ← l, append_assoc) (rw append_assoc t)
+
+line-content : (content : Option ContentData) (key parent name : List ℕ)
+    → codes "item " ++ (key ++ (32 ∷ (parent ++ (32 ∷ (joined (content_words content) ++ (32 ∷ (name ++ 10 ∷ [])))))))
+      ≡ line (codes "item" ∷ key ∷ parent ∷ content_words content ++ name ∷ [])
+line-content None key parent name = refl
+line-content (Some content) key parent name = simp append_assoc
+
+-- the line of an item, written in its parts
+pub item_text : (item : Item) (content name text : List ℕ) → content ≡ joined (content_words item.content) → name ≡ escaped item.name
+    → text ≡ codes "item " ++ (decimal item.key.0 ++ (32 ∷ (decimal item.parent.0 ++ (32 ∷ (content ++ (32 ∷ (name ++ 10 ∷ [])))))))
+    → text ≡ item_line item
+item_text item content name text c n t = t ∙ rw (c, n) (line-content item.content (decimal item.key.0) (decimal item.parent.0) (escaped item.name))
