@@ -20,8 +20,8 @@ batched _ = 0
 -- steps and operations of batches; records, mends and copies don't occur yet
 abbrev pub summary_text : List LogEntry → List ℕ
 summary_text log = line (
-  codes "summary" ∷ decimal (length log) ∷ decimal (sum_by batched log) ∷ codes "0" ∷ codes "0" ∷ codes "0" ∷ []
-)
+    codes "summary" ∷ decimal (length log) ∷ decimal (sum_by batched log) ∷ codes "0" ∷ codes "0" ∷ codes "0" ∷ []
+    )
 
 abbrev pub status_number : Status → ℕ
 status_number status.Ok = 0
@@ -45,8 +45,9 @@ status_text ended = line (codes "status" ∷ decimal (status_number ended) ∷ s
 abbrev pub usage_text : List ℕ
 usage_text =
     line (codes "usage: nucleus run < SCRIPT" ∷ [])
-    ++ line (codes "Reads a script of folder edits and syncs, one a line, and runs it: one client against a server." ∷ [])
-    ++ line (codes "Prints a line for each step, then what server, client and folder hold, and last the status." ∷ [])
+    ++ line (codes "Runs a script of folder edits and syncs, then prints each step and what server and client hold." ∷ [])
+    ++ line (codes "  write 1 /PATH =BYTES  the user makes a file, or replaces its bytes" ∷ [])
+    ++ line (codes "  sync 1                the client brings the server what is new" ∷ [])
 
 -- all that a run prints that ended so: a run that couldn't begin has its status alone, one without room or sink nothing
 abbrev pub refusal_text : Status → List ℕ

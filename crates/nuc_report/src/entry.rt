@@ -8,7 +8,9 @@ use crate::words::{escaped, filling_word, path_word};
 use nuc_class::{Op, Verb};
 use nuc_folder::{Item, UserEdit, UserReply};
 use nuc_hash::Content;
-use nuc_step::{DoneReply, Event, LogEntry, MarkReply, PlanReply, Reply, ScanReply, StartReply, TakeReply};
+use nuc_step::{
+    DoneReply, Event, LogEntry, MarkReply, PlanReply, Reply, ScanReply, StartReply, TakeReply,
+};
 use std::alloc::{AllocError, Global};
 
 /// What an entry of the log prints: its line, and below it the items that were listed or the operations that were planned.

@@ -2,8 +2,12 @@
 #![tactic(auto)]
 
 mod entry;
+mod state;
 mod status;
+mod whole;
 mod words;
 
 pub use entry::log_line;
+pub use state::report;
 pub use status::{Ended, Status};
+pub use whole::{output, refusal, status_line, summary};

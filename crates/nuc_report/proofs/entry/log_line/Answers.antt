@@ -8,7 +8,7 @@ use Rattle.nuc_report.proofs.entry.log_line.Goals as goal
 pub returns-in_ok-lines-in-Stepped : goal.returns-in_ok-lines-in-Stepped
 returns-in_ok-lines-in-Stepped c =
     IfOk-weaker _ _ (λ text. string_bytes text ≡ entry_text c.args.entry.now) (λ text same.
-      rw c.in-Stepped.is (
-        step_text _ _ _ _ _ _ c.in_ok-event-in-Stepped.ensures c.in_ok-answer-in-Stepped.ensures c.in_ok-lines-in-Stepped.ensures same
-      )
+    rw c.in-Stepped.is (
+    step_text _ _ _ _ _ _ c.in_ok-event-in-Stepped.ensures c.in_ok-answer-in-Stepped.ensures c.in_ok-lines-in-Stepped.ensures same
+    )
     ) c.format-in-Stepped.ensures.ok
