@@ -24,3 +24,8 @@ pub all_keys : (nodes : Nodes) (i : ℕ) → i ≡ len nodes → take i (keys no
 all_keys nodes i e =
     let counted : i ≡ length (keys nodes) = e ∙ len-entries nodes ∙ sym (length-map (entries nodes) (λ e. e.0)) in
     rw counted (take-length (keys nodes))
+
+-- four texts that were pushed one after another
+pub pushed_four : (start a b c d one two three four : List ℕ) → one ≡ start ++ a → two ≡ one ++ b → three ≡ two ++ c → four ≡ three ++ d
+    → four ≡ start ++ (a ++ b ++ c ++ d)
+pushed_four start a b c d one two three four e f g h = rw (h, g, f, e) (simp append_assoc)
