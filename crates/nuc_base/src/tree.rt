@@ -23,6 +23,7 @@ pub trait TreeLike {
         ensures empty { IfOk result (λ t. nodes t ≡ map.empty) }
         ensures tree { IfOk result (λ t. WellFormed (nodes t)) };
 
+    /// The node of an identity. The root has none.
     fn get(&self, id: NodeId) -> Option<&Node>
         ensures { option_copied result ≡ map.get (nodes self.now) id.0 };
 
@@ -30,6 +31,7 @@ pub trait TreeLike {
     fn at(&self, parent: NodeId, name: &Name) -> Option<NodeId>
         ensures { let place : Place = record { parent = parent; name = name.now } in MatchOption result (IsVacant (nodes self.now) place) (λ x. StandsAt (nodes self.now) x.0 place) };
 
+    /// Whether a node has this parent.
     fn has_child(&self, id: NodeId) -> bool
         ensures { MatchBool result (HasChild (nodes self.now) id.0) (NoChild (nodes self.now) id.0) };
 
