@@ -1,6 +1,9 @@
 -- When two names are one name among siblings, and two places one place. The meaning of `SameName` is sealed here:
 -- other proofs use the lemmas below, and only that of `Name::same` the last one.
-use Rattle.std.specs.Prelude.{◌≡◌, ℕ, List, refl}
+use Rattle.std.specs.Prelude.{◌≡◌, ℕ, Bool, true, false, List, MatchBool, refl}
+use Rattle.std.specs.Bool.{Decides}
+use Rattle.std.specs.Str.{bytes_eq}
+use Rattle.std.proofs.lemmas.Slice.Eq.{bytes_eq-Decides}
 use Rattle.std.proofs.Common.{sym, ◌∙◌}
 use Rattle.nuc_base.specs.declared.node.Place.{Place}
 
@@ -37,6 +40,18 @@ same_place-trans p q r s t = record { parent = s.parent ∙ t.parent; name = sam
 pub equal_names-same : (a b : List ℕ) → a ≡ b → SameName a b
 unfolding SameName
 equal_names-same a b e = e
+
+-- the test of it, for definitions that go by cases
+pub is_same_name : List ℕ → List ℕ → Bool
+is_same_name a b = bytes_eq a b
+
+told : (r : Bool) (P : Type 0) → Decides r P → MatchBool r P (¬ P)
+told true P d = d.0 refl
+told false P d = λ p. let e : false ≡ true = d.1 p in cc
+
+pub is_same_name-tells : (a b : List ℕ) → MatchBool (is_same_name a b) (SameName a b) (¬ (SameName a b))
+unfolding SameName is_same_name
+is_same_name-tells a b = told (bytes_eq a b) (a ≡ b) (bytes_eq-Decides a b)
 
 -- for the proof of `Name::same` alone
 pub same_name-equal : (a b : List ℕ) → SameName a b → a ≡ b

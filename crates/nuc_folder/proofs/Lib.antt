@@ -1,0 +1,3 @@
+pub mod Refilled
+pub mod Tests
+pub mod Written

@@ -1,5 +1,8 @@
+ghost use Rattle.std.specs.Prelude.{◌≡◌, IfOk};
+
 use nuc_hash::Content;
 use sqlite_items::Items;
+use std::alloc::{AllocError, Global};
 
 /// What a folder knows a file or folder by, while it stands. The folder itself is 0.
 #[derive(Clone, Copy, Debug, PartialEq, Eq, PartialOrd, Ord, Hash)]
@@ -16,4 +19,21 @@ pub struct Item {
     /// What the file holds; a folder has none.
     pub content: Option<Content>,
     pub name: RawName,
+}
+
+impl Item {
+    pub fn copy(&self, alloc: Global) -> Result<Item, AllocError>
+        ensures { IfOk result (λ item. item ≡ self.now) }
+    {
+        let content = match &self.content {
+            Some(content) => Some(content.copy(alloc)?),
+            None => None,
+        };
+        Ok(Item {
+            key: self.key,
+            parent: self.parent,
+            content,
+            name: Items::from_slice(alloc, self.name.as_slice())?,
+        })
+    }
 }

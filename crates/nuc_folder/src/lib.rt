@@ -2,7 +2,12 @@
 #![tactic(auto)]
 
 mod item;
+mod mem_file;
+mod mem_folder;
+mod read_back;
 mod user;
 
 pub use item::{Item, Key, RawName};
+pub use mem_folder::MemFolder;
+pub use read_back::ReadBack;
 pub use user::{UserEdit, UserReply};

@@ -1,0 +1,6 @@
+use Rattle.std.proofs.Common.{◌≡◌, map, take}
+use Rattle.nuc_folder.specs.Listing.{item_of}
+use Rattle.nuc_folder.proofs.mem_folder.MemFolder.items.Given as goal
+
+abbrev pub invariant-loop-file : goal.invariant-loop-file
+invariant-loop-file l = l.items ≡ map item_of (take l.file-index l.file-items)
