@@ -1,4 +1,7 @@
+ghost use Rattle.std.specs.Prelude.{◌≡◌, IfOk};
+
 use nuc_base::{Node, NodeId};
+use std::alloc::{AllocError, Global};
 
 /// What an operation is for.
 #[derive(Clone, Copy, Debug, PartialEq, Eq)]
@@ -24,7 +27,7 @@ pub enum Effect {
 /// A planned operation.
 #[derive(Debug, Drop)]
 pub struct Op {
-    /// Its number among the client's operations, from 1.
+    /// Its number among the client's operations, from 1; 0 until the plan gives it one.
     pub number: u64,
     pub verb: Verb,
     pub id: NodeId,
@@ -39,4 +42,65 @@ pub struct Op {
     /// The revision that a commit takes for the current one of its identity, 0 for a new one.
     pub base: u64,
     pub effect: Effect,
+}
+
+impl Change {
+    pub fn copy(&self, alloc: Global) -> Result<Change, AllocError>
+        ensures { IfOk result (λ change. change ≡ self.now) }
+    {
+        match self {
+            Change::Keep => Ok(Change::Keep),
+            Change::Put(node) => Ok(Change::Put(node.copy(alloc)?)),
+        }
+    }
+}
+
+impl Op {
+    ghost use Rattle.nuc_class.specs.Op.{up_of_new};
+
+    /// The upload of a file that stands in Local alone: a commit over no revision, not numbered yet.
+    pub fn new_file(alloc: Global, id: NodeId, local: &Node) -> Result<Op, AllocError>
+        ensures { IfOk result (λ op. op ≡ up_of_new id.0 local.now) }
+    {
+        Ok(Op {
+            number: 0,
+            verb: Verb::Up,
+            id,
+            other: NodeId(0),
+            remote: Change::Put(local.copy(alloc)?),
+            local: Change::Keep,
+            synced: Change::Put(local.copy(alloc)?),
+            old_local: Some(local.copy(alloc)?),
+            old_synced: None,
+            base: 0,
+            effect: Effect::Commit,
+        })
+    }
+
+    pub fn copy(&self, alloc: Global) -> Result<Op, AllocError>
+        ensures { IfOk result (λ op. op ≡ self.now) }
+    {
+        Ok(Op {
+            number: self.number,
+            verb: self.verb,
+            id: self.id,
+            other: self.other,
+            remote: self.remote.copy(alloc)?,
+            local: self.local.copy(alloc)?,
+            synced: self.synced.copy(alloc)?,
+            old_local: copy_of(alloc, &self.old_local)?,
+            old_synced: copy_of(alloc, &self.old_synced)?,
+            base: self.base,
+            effect: self.effect,
+        })
+    }
+}
+
+fn copy_of(alloc: Global, node: &Option<Node>) -> Result<Option<Node>, AllocError>
+    ensures { IfOk result (λ copy. copy ≡ node.now) }
+{
+    match node {
+        Some(node) => Ok(Some(node.copy(alloc)?)),
+        None => Ok(None),
+    }
 }

@@ -1,0 +1,100 @@
+use Rattle.std.specs.Prelude.{ℕ, List, [], ◌∷◌, ◌++◌, Bool, true, false, Option, Some, None, length, codes}
+use Rattle.std.specs.Fmt.{decimal}
+use Rattle.std.specs.List.{flat_map}
+use Rattle.hex.specs.Hex.{encode_lower}
+use Rattle.nuc_base.specs.declared.path.Path.{Path}
+use Rattle.nuc_hash.specs.Content.{ContentData}
+use Rattle.nuc_hash.specs.declared.filling.Filling.{Filling}
+use Rattle.nuc_hash.specs.declared.filling.Filling.TheVariants.{Given}
+use Rattle.nuc_folder.specs.declared.item.Item.{Item}
+use Rattle.nuc_folder.specs.declared.user.UserEdit.{UserEdit}
+use Rattle.nuc_folder.specs.declared.user.UserEdit.TheVariants.{Write}
+use Rattle.nuc_folder.specs.declared.user.UserReply.{UserReply}
+use Rattle.nuc_folder.specs.declared.user.UserReply.TheVariants as user
+use Rattle.nuc_class.specs.declared.op.Op.{Op}
+use Rattle.nuc_class.specs.declared.op.Verb.{Verb}
+use Rattle.nuc_class.specs.declared.op.Verb.TheVariants.{Up}
+use Rattle.nuc_step.specs.declared.event.Event.{Event}
+use Rattle.nuc_step.specs.declared.event.Event.TheVariants as event
+use Rattle.nuc_step.specs.declared.reply.Reply.{Reply}
+use Rattle.nuc_step.specs.declared.reply.Reply.TheVariants as reply
+use Rattle.nuc_step.specs.declared.reply.ScanReply.TheVariants as scan
+use Rattle.nuc_step.specs.declared.reply.PlanReply.TheVariants as plan
+use Rattle.nuc_step.specs.declared.reply.StartReply.TheVariants as start
+use Rattle.nuc_step.specs.declared.reply.TakeReply.TheVariants as take
+use Rattle.nuc_step.specs.declared.reply.DoneReply.TheVariants as done
+use Rattle.nuc_step.specs.declared.reply.MarkReply.TheVariants as mark
+use Rattle.nuc_step.specs.declared.log.LogEntry.{LogEntry}
+use Rattle.nuc_step.specs.declared.log.LogEntry.TheVariants.{Opened, Stepped}
+use Rattle.nuc_report.specs.Line.{line, escaped}
+
+-- each name after a `/`
+abbrev pub path_word : Path → List ℕ
+path_word path = flat_map (λ name. 47 ∷ escaped name) path.names
+
+-- `=` and the bytes
+abbrev pub filling_word : Filling → List ℕ
+filling_word (Given bytes) = 61 ∷ escaped bytes
+
+-- kind, size and hash; a folder has no bytes
+abbrev pub content_words : Option ContentData → List (List ℕ)
+content_words None = codes "folder" ∷ codes "0" ∷ codes "-" ∷ []
+content_words (Some content) = codes "file" ∷ decimal content.size ∷ encode_lower content.hash.0 ∷ []
+
+abbrev pub item_line : Item → List ℕ
+item_line item = line (codes "item" ∷ decimal item.key.0 ∷ decimal item.parent.0 ∷ content_words item.content ++ escaped item.name ∷ [])
+
+abbrev pub verb_word : Verb → List ℕ
+verb_word Up = codes "up"
+
+abbrev pub op_line : Op → List ℕ
+op_line op = line (codes "op" ∷ decimal op.number ∷ verb_word op.verb ∷ decimal op.id.0 ∷ decimal op.other.0 ∷ [])
+
+abbrev pub edit_words : UserEdit → List (List ℕ)
+edit_words (Write path filling) = codes "write" ∷ path_word path ∷ filling_word filling ∷ []
+
+abbrev pub event_words : Event → List (List ℕ)
+event_words (event.User client edit) = codes "user" ∷ decimal client ∷ edit_words edit
+event_words (event.List client) = codes "list" ∷ decimal client ∷ []
+event_words (event.Scan client) = codes "scan" ∷ decimal client ∷ []
+event_words (event.Pull client) = codes "pull" ∷ decimal client ∷ []
+event_words (event.Plan client) = codes "plan" ∷ decimal client ∷ []
+event_words (event.Start client number) = codes "start" ∷ decimal client ∷ decimal number ∷ []
+event_words (event.Take client number) = codes "take" ∷ decimal client ∷ decimal number ∷ []
+event_words (event.Done client number) = codes "done" ∷ decimal client ∷ decimal number ∷ []
+event_words (event.Mark client) = codes "sync" ∷ decimal client ∷ []
+
+abbrev pub user_word : UserReply → List ℕ
+user_word user.Ok = codes "ok"
+user_word user.NoParent = codes "noparent"
+user_word user.Memory = codes "memory"
+
+abbrev pub reply_words : Reply → List (List ℕ)
+reply_words (reply.User answer) = user_word answer ∷ []
+reply_words (reply.Listed changes items) = decimal changes ∷ decimal (length items) ∷ []
+reply_words (reply.Scan (scan.Changed count)) = codes "changed" ∷ decimal count ∷ []
+reply_words (reply.Pulled entries cursor) = decimal entries ∷ decimal cursor ∷ []
+reply_words (reply.Plan plan.Empty) = codes "empty" ∷ []
+reply_words (reply.Plan (plan.Batch ops)) = codes "batch" ∷ decimal (length ops) ∷ []
+reply_words (reply.Started (start.Ok bytes)) = codes "ok" ∷ []
+reply_words (reply.Took (take.Accepted revision)) = codes "accepted" ∷ decimal revision ∷ []
+reply_words (reply.Done done.Applied) = codes "applied" ∷ []
+reply_words (reply.Marked mark.Quiet) = codes "quiet" ∷ []
+
+-- what stands below an answer: the items of a listing, the operations of a batch
+abbrev pub reply_lines : Reply → List ℕ
+reply_lines (reply.Listed changes items) = flat_map item_line items
+reply_lines (reply.Plan (plan.Batch ops)) = flat_map op_line ops
+reply_lines _ = []
+
+abbrev pub opening_word : Bool → List ℕ
+opening_word true = codes "kept"
+opening_word false = codes "fresh"
+
+-- what one entry of a log prints
+abbrev pub entry_text : LogEntry → List ℕ
+entry_text (Opened clients kept) = line (codes "open" ∷ decimal clients ∷ opening_word kept ∷ [])
+entry_text (Stepped event reply) = line (event_words event ++ reply_words reply) ++ reply_lines reply
+
+abbrev pub log_text : List LogEntry → List ℕ
+log_text log = flat_map entry_text log

@@ -1,0 +1,4 @@
+pub mod Line
+pub mod Entry
+pub mod Report
+pub mod Output

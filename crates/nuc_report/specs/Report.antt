@@ -1,0 +1,94 @@
+use Rattle.std.specs.Prelude.{ℕ, List, [], ◌∷◌, ◌++◌, Bool, true, false, codes}
+use Rattle.std.specs.Fmt.{decimal}
+use Rattle.std.specs.List.{flat_map}
+use Rattle.std.specs.Option.{option_map_or}
+use Rattle.std.specs.FinMap.{get, keys}
+use Rattle.hex.specs.Hex.{encode_lower}
+use Rattle.nuc_base.specs.Trees.{Nodes}
+use Rattle.nuc_base.specs.declared.node.Kind.{Kind}
+use Rattle.nuc_base.specs.declared.node.Kind.TheVariants.{Folder, File}
+use Rattle.nuc_base.specs.declared.node.Node.{Node}
+use Rattle.nuc_edits.specs.declared.edit.Edit.{Edit}
+use Rattle.nuc_edits.specs.declared.edit.EditKind.{EditKind}
+use Rattle.nuc_edits.specs.declared.edit.EditKind.TheVariants.{Put}
+use Rattle.nuc_folder.specs.declared.item.Item.{Item}
+use Rattle.nuc_step.specs.declared.view.ClientView.{ClientView}
+use Rattle.nuc_step.specs.declared.view.View.{View}
+use Rattle.nuc_report.specs.Line.{line, escaped}
+use Rattle.nuc_report.specs.Entry.{item_line}
+
+-- what a report shows of a client: its trees, and the listing of its folder
+pub record ClientSeen : Type 0 where
+  pub number : ℕ
+  pub cursor : ℕ
+  pub changes : ℕ
+  pub remote : Nodes
+  pub local : Nodes
+  pub synced : Nodes
+  pub folder : List Item
+
+-- what a report shows: the server's last revision and its tree, the edits, and the client
+pub record Seen : Type 0 where
+  pub revision : ℕ
+  pub server : Nodes
+  pub edits : List Edit
+  pub client : ClientSeen
+
+-- what a view lends
+abbrev pub client_seen : {T : Type 0} → (T → Nodes) → ClientView T → ClientSeen
+client_seen nodes client = record {
+  number = client.number;
+  cursor = client.cursor;
+  changes = client.changes;
+  remote = nodes client.remote.now;
+  local = nodes client.local.now;
+  synced = nodes client.synced.now;
+  folder = client.folder.now;
+}
+
+abbrev pub seen_of : {T : Type 0} → (T → Nodes) → View T → Seen
+seen_of nodes view = record {
+  revision = view.revision;
+  server = nodes view.server.now;
+  edits = view.edits.now;
+  client = client_seen nodes view.client;
+}
+
+-- a file with the bit is a program
+abbrev pub kind_word : Kind → Bool → List ℕ
+kind_word Folder bit = codes "folder"
+kind_word File false = codes "file"
+kind_word File true = codes "program"
+
+abbrev pub node_line : ℕ → Node → List ℕ
+node_line id node = line (
+    codes "node" ∷ decimal id ∷ decimal node.place.parent.0 ∷ kind_word node.kind node.bit ∷ decimal node.ver.0 ∷ escaped node.place.name ∷ []
+    )
+
+-- the line of the node that stands there, if one does
+abbrev pub line_at : Nodes → ℕ → List ℕ
+line_at nodes id = option_map_or (node_line id) (get nodes id) []
+
+-- a line for each node, in order of identity
+abbrev pub tree_text : Nodes → List ℕ
+tree_text nodes = flat_map (line_at nodes) (keys nodes)
+
+abbrev pub change_words : EditKind → List (List ℕ)
+change_words (Put content) = codes "put" ∷ decimal content.size ∷ encode_lower content.hash.0 ∷ []
+
+abbrev pub edit_line : Edit → List ℕ
+edit_line edit = line (codes "edit" ∷ decimal edit.ver.0 ∷ decimal edit.id.0 ∷ decimal edit.base.0 ∷ change_words edit.what)
+
+abbrev pub server_text : Seen → List ℕ
+server_text seen = line (codes "server" ∷ decimal seen.revision ∷ []) ++ tree_text seen.server
+
+abbrev pub client_text : ClientSeen → List ℕ
+client_text client =
+    line (codes "client" ∷ decimal client.number ∷ decimal client.cursor ∷ decimal client.changes ∷ [])
+    ++ line (codes "remote" ∷ []) ++ tree_text client.remote
+    ++ line (codes "local" ∷ []) ++ tree_text client.local
+    ++ line (codes "synced" ∷ []) ++ tree_text client.synced
+    ++ line (codes "folder" ∷ []) ++ flat_map item_line client.folder
+
+abbrev pub report_text : Seen → List ℕ
+report_text seen = line (codes "report" ∷ []) ++ server_text seen ++ client_text seen.client ++ flat_map edit_line seen.edits
