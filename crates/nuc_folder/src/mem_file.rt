@@ -29,6 +29,7 @@ impl Model for MemFile {
     ghost invariant = { λ f. f.content ≡ content_of f.bytes };
 }
 
+ghost use Rattle.nuc_base.specs.Names.{IsName};
 ghost use Rattle.nuc_folder.specs.Listing.{has_key, item_of};
 ghost use Rattle.nuc_folder.specs.Write.{comes_after, has_name};
 
@@ -82,7 +83,8 @@ impl MemFile {
 
     /// The file's line of a listing.
     pub fn item(&self, alloc: Global) -> Result<Item, AllocError>
-        ensures { IfOk result (λ item. item ≡ item_of self.now) }
+        ensures line { IfOk result (λ item. item ≡ item_of self.now) }
+        ensures name { IfOk result (λ item. IsName item.name) }
     {
         Ok(Item {
             key: self.key,

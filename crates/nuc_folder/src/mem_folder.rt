@@ -1,4 +1,4 @@
-ghost use Rattle.std.specs.Prelude.{◌≡◌, ◌<◌, ◌≤◌, [], length, map, position, IfOk, OnOk, OnErr, IfSome, None};
+ghost use Rattle.std.specs.Prelude.{◌≡◌, ◌<◌, ◌≤◌, [], All, length, map, position, IfOk, OnOk, OnErr, IfSome, None};
 ghost use Rattle.std.specs.List.{find};
 ghost use Rattle.std.specs.Option.{option_copied};
 
@@ -27,6 +27,7 @@ impl Model for MemFolder {
     ghost invariant = { λ f. IsFormed (record { files = f.files.items; next_key = f.next_key }) };
 }
 
+ghost use Rattle.nuc_base.specs.Names.{IsName};
 ghost use Rattle.nuc_folder.specs.Formed.{IsFormed};
 ghost use Rattle.nuc_folder.specs.Listing.{has_key, item_of, Reads};
 ghost use Rattle.nuc_folder.specs.Write.{Answers, comes_after, has_name, place_of, refilled, written, written_at};
@@ -83,6 +84,7 @@ impl MemFolder {
     /// The listing: a line for each file, in order.
     pub fn items(&self, alloc: Global) -> Result<Items<Item>, AllocError>
         ensures lines { IfOk result (λ items. items ≡ map item_of self.now.files) }
+        ensures names { IfOk result (λ items. All (λ item. IsName item.name) items) }
         ensures formed { IsFormed self.now }
     {
         let mut items = Items::new(alloc);

@@ -4,3 +4,7 @@ pub mod LegalLemmas
 pub mod UploadLemmas
 pub mod BatchLemmas
 pub mod ScanLemmas
+pub mod GoodLemmas
+pub mod OutcomeLemmas
+pub mod UploadAnswers
+pub mod BatchRun

@@ -77,3 +77,6 @@ began_then p q = record { end = q.end; left = q.left; did = did_then p q.did }
 
 pub began_more : {x y : List LogEntry} {a : State} {ts : List Task} → (rest : List Task) → Began x y a ts → Began x y a (ts ++ rest)
 began_more rest q = record { end = q.end; left = q.left ++ rest; did = did_more rest q.did }
+
+pub did_end : {x y : List LogEntry} {a b c : State} {ts us : List Task} → Did x y a ts b us → b ≡ c → Did x y a ts c us
+did_end {x} {y} {a} {ts = ts} {us = us} p same = subst (λ s. Did x y a ts s us) same p

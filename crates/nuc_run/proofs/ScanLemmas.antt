@@ -10,7 +10,7 @@ use Rattle.nuc_base.specs.SamePlace.{SameName, SamePlace, same_name-sym, equal_n
 use Rattle.nuc_base.specs.Trees.{Nodes, WellFormed}
 use Rattle.nuc_base.specs.declared.node.Counters.{Counters}
 use Rattle.nuc_base.specs.declared.node.Node.{Node}
-use Rattle.nuc_base.proofs.Maps.{after_put, same_or_not}
+use Rattle.nuc_base.proofs.Maps.{after_put, get_put_other, not_both, same_or_not}
 use Rattle.nuc_base.proofs.Forms.{put_keeps}
 use Rattle.nuc_edits.specs.Edits.{IsNext}
 use Rattle.nuc_edits.specs.declared.edit.Edit.{Edit}
@@ -141,6 +141,19 @@ module _ (items : List Item) (o : Observed) (apart : AreApart items) (fits : IsO
               subst (λ (q : Observed). IsObserved items q.local q.keys q.edits q.ids) (sym f)
               (observed_more items o.local o.keys o.edits o.ids apart fits item among unknown o.ids.next_ver
               (with_new_file o item content).edits (o.ids.next_ver + 1) fits.versions.some next)
+        ] e
+      ] refl is
+
+  pub item_keeps : (p : Observed) → p ≡ with_item o item → (x : ℕ) (n : Node) → tree.get o.local x ≡ Some n → tree.get p.local x ≡ Some n
+  item_keeps p is x n at =
+      elim (is_known o.keys item.key.0) as (λ t. is_known o.keys item.key.0 ≡ t → p ≡ cond t o (with_listed o item item.content) → tree.get p.local x ≡ Some n) [
+        | true ↦ λ _ e. subst (λ (q : Observed). tree.get q.local x ≡ Some n) (sym e) at
+        | false ↦ λ unknown e. elim item.content as (λ v. p ≡ with_listed o item v → tree.get p.local x ≡ Some n) [
+          | None ↦ λ f. subst (λ (q : Observed). tree.get q.local x ≡ Some n) (sym f) at
+          | Some content ↦ λ f. subst (λ (q : Observed). tree.get q.local x ≡ Some n) (sym f)
+              (get_put_other o.local o.ids.next_id (new_file item.name o.ids.next_ver) x
+                (λ same. not_both o.local o.ids.next_id n (next_absent items o.local o.keys o.edits o.ids apart fits item among unknown o.ids.next_ver)
+                  (subst (λ x. tree.get o.local x ≡ Some n) same at)) ∙ at)
         ] e
       ] refl is
 

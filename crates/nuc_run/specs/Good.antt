@@ -1,17 +1,31 @@
 -- What holds between the steps of a script, where nothing but whole batches is in flight.
-use Rattle.std.specs.Prelude.{◌≡◌, ◌≢◌, ◌⊎◌, ℕ, ◌+◌, ◌<◌, ◌≤◌, List, [], ◌∷◌, length, Option, None, Some}
+use Rattle.std.specs.Prelude.{◌≡◌, ◌≢◌, ◌⊎◌, ℕ, ◌+◌, ◌<◌, ◌≤◌, List, [], ◌∷◌, ◌++◌, length, Option, None, Some}
 use Rattle.std.specs.FinMap as tree
 use Rattle.nuc_base.specs.SamePlace.{SameName}
 use Rattle.nuc_base.specs.declared.node.Counters.{Counters}
 use Rattle.nuc_base.specs.declared.node.Node.{Node}
 use Rattle.nuc_base.specs.Trees.{Nodes, WellFormed}
+use Rattle.nuc_class.specs.declared.op.Change.{Change}
+use Rattle.nuc_class.specs.declared.op.Change.TheVariants.{Keep, Put}
 use Rattle.nuc_class.specs.declared.op.Op.{Op}
 use Rattle.nuc_class.specs.Op.{up_of_new}
 use Rattle.nuc_edits.specs.declared.edit.Edit.{Edit}
 use Rattle.nuc_edits.specs.Edits.{IsNext}
+use Rattle.nuc_folder.specs.Folder.{FolderData}
 use Rattle.nuc_folder.specs.declared.item.Item.{Item}
+use Rattle.nuc_step.specs.declared.event.Event.TheVariants as event
+use Rattle.nuc_step.specs.declared.log.LogEntry.{LogEntry}
+use Rattle.nuc_step.specs.declared.log.LogEntry.TheVariants as entry
+use Rattle.nuc_step.specs.declared.reply.PlanReply.{PlanReply}
+use Rattle.nuc_step.specs.declared.reply.PlanReply.TheVariants as plan
+use Rattle.nuc_step.specs.declared.reply.Reply.TheVariants as reply
+use Rattle.nuc_step.specs.declared.reply.StartReply.TheVariants as start
 use Rattle.nuc_run.specs.declared.client.Binding.{Binding}
+use Rattle.nuc_run.specs.declared.entry.Entry.{Entry}
+use Rattle.nuc_run.specs.State.{State}
 use Rattle.nuc_run.specs.Scan.{key_of}
+use Rattle.nuc_run.specs.Server.{tree_of}
+use Rattle.nuc_run.specs.Step.{bytes_of_key, listing}
 
 -- the item is one of them
 abbrev pub IsAmong : Item → List Item → Type 0
@@ -44,6 +58,23 @@ pub record IsObserved (items : List Item) (local : Nodes) (keys : List Binding) 
   pub first : 0 < ids.next_id
   pub versions : IsNext ids.next_ver edits
 
+-- the second tree has all that the first has
+abbrev pub AreKept : Nodes → Nodes → Type 0
+AreKept m k = (x : ℕ) (n : Node) → tree.get m x ≡ Some n → tree.get k x ≡ Some n
+
+-- Remote, Synced and the server are one tree, which Local has too
+pub record InStep (server : List Entry) (remote local synced : Nodes) (cursor : ℕ) : Type 0 where
+  pub remote_form : WellFormed remote
+  pub synced_form : WellFormed synced
+  pub served : tree_of server ≡ synced
+  pub pulled : remote ≡ synced
+  pub cursor_is : cursor ≡ length server
+  pub within : AreKept synced local
+
+pub record Good (s : State) : Type 0 where
+  pub observed : IsObserved (listing s.folder) s.client.local s.client.keys s.edits s.ids
+  pub step : InStep s.server s.client.remote s.client.local s.client.synced s.client.cursor
+
 -- the upload of a file that stands in Local alone, whatever its number
 pub record IsUpload (local synced : Nodes) (op : Op) : Type 0 where
   pub node : Node
@@ -56,3 +87,36 @@ pub data AllUploads (local : Nodes) : Nodes → List Op → Type 0 where
   none : (synced : Nodes) → AllUploads local synced []
   next : (synced : Nodes) (op : Op) (ops : List Op) (up : IsUpload local synced op)
       → AllUploads local (tree.insert synced op.id.0 up.node) ops → AllUploads local synced (op ∷ ops)
+
+-- an identity stands in a tree
+abbrev pub IsHere : Nodes → ℕ → Type 0
+IsHere m x = (n : Node) × (tree.get m x ≡ Some n)
+
+-- Synced has the operation's node, and is else as before
+abbrev pub HasPut : Nodes → Nodes → ℕ → Change → Type 0
+HasPut old new x Keep = ⊥
+HasPut old new x (Put n) = new ≡ tree.insert old x n
+
+abbrev pub IsPut : Nodes → Nodes → Op → Type 0
+IsPut old new op = HasPut old new op.id.0 op.synced
+
+-- the operations' identities stand in a tree
+abbrev pub AllHere : Nodes → List Op → Type 0
+AllHere m [] = Unit {0}
+AllHere m (op ∷ ops) = IsHere m op.id.0 × AllHere m ops
+
+-- Synced has all that it had, and the operations' identities
+pub record HasThem (old new : Nodes) (ops : List Op) : Type 0 where
+  pub kept : AreKept old new
+  pub them : AllHere new ops
+
+-- what a plan answers that puts these in flight
+abbrev pub IsPlanned : List Op → PlanReply → Type 0
+IsPlanned ops plan.Empty = ops ≡ []
+IsPlanned ops (plan.Batch copies) = (copies ≡ ops) × (ops ≢ [])
+
+-- a start has read the bytes of the file of this key, and its entry has them
+pub record HasRead (folder : FolderData) (key : Option ℕ) (number : ℕ) (old new : List LogEntry) : Type 0 where
+  pub bytes : List ℕ
+  pub read : bytes_of_key folder key ≡ Some bytes
+  pub logged : new ≡ old ++ entry.Stepped (event.Start 1 number) (reply.Started (start.Ok (Some bytes))) ∷ []

@@ -6,3 +6,5 @@ pub mod Step
 pub mod Tasks
 pub mod Runs
 pub mod Good
+pub mod World
+pub mod Outcome

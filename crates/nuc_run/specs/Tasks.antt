@@ -34,10 +34,15 @@ event_of (plans client) = event.Plan client
 abbrev pub steps_of : ℕ → Op → List Task
 steps_of client op = once (event.Start client op.number) ∷ once (event.Take client op.number) ∷ once (event.Done client op.number) ∷ []
 
+-- what a plan asks for that put these in flight: each operation's steps, and then the next plan
+abbrev pub after_plan : ℕ → List Op → List Task
+after_plan client [] = []
+after_plan client (op ∷ ops) = flat_map (steps_of client) (op ∷ ops) ++ plans client ∷ []
+
 -- what a task still asks for after a reply
 abbrev pub more : Task → Reply → List Task
 more (pulls client) (reply.Pulled entries cursor) = cond (entries == 0) [] (pulls client ∷ [])
-more (plans client) (reply.Plan (plan.Batch ops)) = flat_map (steps_of client) ops ++ plans client ∷ []
+more (plans client) (reply.Plan (plan.Batch ops)) = after_plan client ops
 more _ _ = []
 
 -- the entries are those that the tasks bring, and these are the tasks left after them

@@ -1,4 +1,4 @@
-ghost use Rattle.std.specs.Prelude.{◌≡◌, IsTrue, []};
+ghost use Rattle.std.specs.Prelude.{◌≡◌, []};
 ghost use Rattle.std.specs.Option.{option_map};
 ghost use Rattle.std.specs.FinMap as map;
 ghost use Rattle.nuc_run.specs.Scan.{is_known, key_of};
@@ -33,7 +33,12 @@ pub struct Client {
 
 impl Client {
     /// A client that knows of nothing, in no memory.
-    pub fn new(alloc: Global) -> Client {
+    pub fn new(alloc: Global) -> Client
+        ensures remote { result.remote.nodes ≡ map.empty }
+        ensures local { result.local.nodes ≡ map.empty }
+        ensures synced { result.synced.nodes ≡ map.empty }
+        ensures others { result ≡ record result { keys = []; cursor = 0; changes = 0; next_op = 1 } }
+    {
         Client {
             remote: Tree::new(alloc),
             local: Tree::new(alloc),

@@ -1,15 +1,13 @@
-//! The top call.
+//! The top call: it reads a script, runs it in memory and writes the log and the report.
 #![tactic(auto)]
 
 mod client;
 mod entry;
 mod legal;
 mod plan;
+mod run;
 mod scan;
 mod server;
+mod world;
 
-pub use client::{Binding, Client, key_of};
-pub use entry::Entry;
-pub use plan::batch;
-pub use scan::observe;
-pub use server::Server;
+pub use run::run_script;

@@ -4,7 +4,7 @@ ghost use Rattle.nuc_base.specs.Names.{IsName};
 ghost use Rattle.nuc_base.specs.Legal.{LegalPut};
 ghost use Rattle.nuc_base.specs.Trees.{WellFormed};
 ghost use Rattle.nuc_edits.specs.Edits.{IsNext};
-ghost use Rattle.nuc_run.specs.Good.{AreApart, IsObserved};
+ghost use Rattle.nuc_run.specs.Good.{AreApart, AreKept, IsObserved};
 ghost use Rattle.nuc_run.specs.Scan.{Observed, is_known, new_file, observed, with_item, with_new_file};
 
 use crate::client::{Binding, is_known};
@@ -32,6 +32,7 @@ pub fn observe(
     requires fits { IsObserved items.now local.old.nodes keys.old edits.old ids.old }
     ensures ok { OnOk result (observed (record { local = local.old.nodes; keys = keys.old; edits = edits.old; ids = ids.old }) items.now ≡ record { local = local.new.nodes; keys = keys.new; edits = edits.new; ids = ids.new }) }
     ensures fits { OnOk result (IsObserved items.now local.new.nodes keys.new edits.new ids.new) }
+    ensures kept { OnOk result (AreKept local.old.nodes local.new.nodes) }
 {
     for item in items {
         observe_item(alloc, item, local, keys, edits, ids)?;

@@ -5,7 +5,7 @@ ghost use Rattle.nuc_base.specs.Trees.{WellFormed};
 ghost use Rattle.nuc_run.specs.Server.{tree_of};
 ghost use Rattle.nuc_run.specs.Step.{next_entry};
 
-use crate::Entry;
+use crate::entry::Entry;
 use crate::legal::put_legal;
 use nuc_base::{Node, NodeId};
 use nuc_tree::Tree;

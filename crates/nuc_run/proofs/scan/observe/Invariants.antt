@@ -1,5 +1,5 @@
 use Rattle.std.proofs.Common.{◌≡◌, drop}
-use Rattle.nuc_run.specs.Good.{IsObserved}
+use Rattle.nuc_run.specs.Good.{AreKept, IsObserved}
 use Rattle.nuc_run.specs.Scan.{observed}
 use Rattle.nuc_run.proofs.scan.observe.Given as goal
 
@@ -8,4 +8,5 @@ invariant-loop-item l = record {
   so_far : observed (record { local = l.initial.local.nodes; keys = l.initial.keys; edits = l.initial.edits; ids = l.initial.ids }) l.items
       ≡ observed (record { local = l.local.nodes; keys = l.keys; edits = l.edits; ids = l.ids }) (drop l.item-index l.items);
   fits : IsObserved l.items l.local.nodes l.keys l.edits l.ids;
+  kept : AreKept l.initial.local.nodes l.local.nodes;
 }

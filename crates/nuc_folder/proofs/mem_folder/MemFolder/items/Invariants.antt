@@ -1,6 +1,10 @@
-use Rattle.std.proofs.Common.{◌≡◌, map, take}
+use Rattle.std.proofs.Common.{◌≡◌, All, map, take}
+use Rattle.nuc_base.specs.Names.{IsName}
 use Rattle.nuc_folder.specs.Listing.{item_of}
 use Rattle.nuc_folder.proofs.mem_folder.MemFolder.items.Given as goal
 
 abbrev pub invariant-loop-file : goal.invariant-loop-file
-invariant-loop-file l = l.items ≡ map item_of (take l.file-index l.file-items)
+invariant-loop-file l = record {
+  lines : l.items ≡ map item_of (take l.file-index l.file-items);
+  names : All (λ item. IsName item.name) l.items
+}

@@ -1,0 +1,97 @@
+-- The parts of an upload put together.
+use Rattle.std.proofs.Common.{◌≡◌, ◌+◌, ℕ, List, [], ◌∷◌, ◌++◌, length, Option, None, Some, refl, sym, ◌∙◌, ap, subst, append_assoc}
+use Rattle.std.specs.FinMap as tree
+use Rattle.nuc_base.specs.Trees.{Nodes, WellFormed}
+use Rattle.nuc_base.specs.declared.node.Node.{Node}
+use Rattle.nuc_class.specs.declared.op.Op.{Op}
+use Rattle.nuc_class.specs.declared.op.Change.TheVariants.{Put}
+use Rattle.nuc_step.specs.declared.log.LogEntry.{LogEntry}
+use Rattle.nuc_run.specs.declared.entry.Entry.{Entry}
+use Rattle.nuc_run.specs.Good.{Good, HasRead, IsUpload, IsPut, HasPut, InStep}
+use Rattle.nuc_run.specs.Runs.{Did, Began, Runs}
+use Rattle.nuc_run.specs.Scan.{key_of}
+use Rattle.nuc_run.specs.State.{State, Flight}
+use Rattle.nuc_run.specs.Step.{as_planned, next_entry}
+use Rattle.nuc_run.specs.Tasks.{Task, steps_of}
+use Rattle.nuc_base.proofs.Forms.{put_keeps}
+use Rattle.nuc_run.specs.World.{at_rest, state_of}
+use Rattle.nuc_run.specs.declared.world.World.{World}
+use Rattle.nuc_run.proofs.GoodLemmas.{upload_keeps, upload_legal, upload_id, upload_fits, upload_remote, upload_synced}
+use Rattle.nuc_run.proofs.RunLemmas.{did_nothing, began_at}
+use Rattle.nuc_run.proofs.UploadLemmas.{has_started, is_taken, uploaded, start_entry, take_entry, done_entry, take_and_done, only_done, start_runs, taken_runs, upload_runs}
+
+-- the state with these in flight
+abbrev pub flying : State → List Flight → State
+flying s flights = record s { client = record s.client { flights = flights } }
+
+pub began_before : (s : State) (op : Op) (x y : List LogEntry) (rest : List Flight) → y ≡ x → Began x y (flying s (as_planned op ∷ rest)) (steps_of 1 op)
+began_before s op x y rest same =
+    subst (λ y. Began x y (flying s (as_planned op ∷ rest)) (steps_of 1 op)) (sym same) (began_at (did_nothing x (flying s (as_planned op ∷ rest)) (steps_of 1 op)))
+
+module _ (s : State) (good : Good s) (op : Op) (up : IsUpload s.client.local s.client.synced op) (x y : List LogEntry)
+         (read : HasRead s.folder (key_of op.id.0 s.client.keys) op.number x y) (rest : List Flight) where
+  abbrev pub rev : ℕ
+  rev = length s.server + 1
+
+  pub did_start : (z : List LogEntry) → z ≡ y → Did x z (flying s (as_planned op ∷ rest)) (steps_of 1 op) (has_started (flying s (as_planned op ∷ rest)) op rest read.bytes) (take_and_done op.number)
+  did_start z same = record {
+    entries = start_entry op.number read.bytes ∷ [];
+    added = same ∙ read.logged;
+    runs = start_runs (flying s (as_planned op ∷ rest)) op rest up.node read.bytes refl (upload_remote _ _ op up) (upload_synced _ _ op up) read.read good.step.cursor_is
+  }
+
+  taken_added : (z : List LogEntry) → z ≡ y ++ take_entry op.number rev ∷ [] → z ≡ x ++ start_entry op.number read.bytes ∷ take_entry op.number rev ∷ []
+  taken_added z added = added ∙ ap (λ l. l ++ take_entry op.number rev ∷ []) read.logged ∙ append_assoc x (start_entry op.number read.bytes ∷ []) (take_entry op.number rev ∷ [])
+
+  pub did_take : (z : List LogEntry) → z ≡ y ++ take_entry op.number rev ∷ []
+      → Did x z (flying s (as_planned op ∷ rest)) (steps_of 1 op) (is_taken (flying s (as_planned op ∷ rest)) op rest up.node) (only_done op.number)
+  did_take z added = record {
+    entries = start_entry op.number read.bytes ∷ take_entry op.number rev ∷ [];
+    added = taken_added z added;
+    runs = taken_runs (flying s (as_planned op ∷ rest)) op rest up.node read.bytes refl (upload_remote _ _ op up) (upload_synced _ _ op up) read.read good.step.cursor_is
+  }
+
+  pub did_upload : (z u : List LogEntry) → z ≡ y ++ take_entry op.number rev ∷ [] → u ≡ z ++ done_entry op.number ∷ []
+      → Did x u (flying s (as_planned op ∷ rest)) (steps_of 1 op) (uploaded (flying s (as_planned op ∷ rest)) op rest up.node) []
+  did_upload z u added last = record {
+    entries = start_entry op.number read.bytes ∷ take_entry op.number rev ∷ done_entry op.number ∷ [];
+    added = last ∙ ap (λ l. l ++ done_entry op.number ∷ []) (taken_added z added)
+        ∙ append_assoc x (start_entry op.number read.bytes ∷ take_entry op.number rev ∷ []) (done_entry op.number ∷ []);
+    runs = upload_runs (flying s (as_planned op ∷ rest)) op rest up.node read.bytes refl (upload_remote _ _ op up) (upload_synced _ _ op up) read.read good.step.cursor_is
+  }
+
+-- what holds after an upload
+pub good_uploaded : (s : State) (good : Good s) (op : Op) (up : IsUpload s.client.local s.client.synced op) (flights rest : List Flight)
+    → Good (uploaded (flying s flights) op rest up.node)
+good_uploaded s good op up flights rest = record {
+  observed = good.observed;
+  step = upload_keeps s good op up _ _ _ _ refl
+      (put_keeps s.client.remote op.id.0 up.node good.step.remote_form (upload_legal s good op up s.client.remote up.node good.step.pulled refl) (upload_id s good op up) (upload_fits s good op up))
+      (put_keeps s.client.synced op.id.0 up.node good.step.synced_form (upload_legal s good op up s.client.synced up.node refl refl) (upload_id s good op up) (upload_fits s good op up))
+      refl refl refl
+}
+
+-- the world in code after the server took an upload, and after it was done
+module _ (v t w : World) (op : Op) (n : Node) (server : t ≡ record v { server = v.server ++ next_entry v.server op.id.0 n ∷ [] })
+         (others : w ≡ record t { client = record t.client { remote = w.client.remote; synced = w.client.synced; cursor = t.client.cursor + 1 } })
+         (remote : w.client.remote.nodes ≡ tree.insert t.client.remote.nodes op.id.0 n)
+         (synced : w.client.synced.nodes ≡ tree.insert t.client.synced.nodes op.id.0 n) where
+  world_is : w ≡ record v {
+    server = v.server ++ next_entry v.server op.id.0 n ∷ [];
+    client = record v.client { remote = w.client.remote; synced = w.client.synced; cursor = v.client.cursor + 1 }
+  }
+  world_is = others ∙ ap (λ (t : World). record t { client = record t.client { remote = w.client.remote; synced = w.client.synced; cursor = t.client.cursor + 1 } }) server
+
+  pub local_is : w.client.local ≡ v.client.local
+  local_is = ap (λ (w : World). w.client.local) world_is
+
+  remote_is : w.client.remote.nodes ≡ tree.insert v.client.remote.nodes op.id.0 n
+  remote_is = remote ∙ ap (λ (t : World). tree.insert t.client.remote.nodes op.id.0 n) server
+
+  pub synced_is : w.client.synced.nodes ≡ tree.insert v.client.synced.nodes op.id.0 n
+  synced_is = synced ∙ ap (λ (t : World). tree.insert t.client.synced.nodes op.id.0 n) server
+
+  pub state_is : (flights rest : List Flight) → state_of w None rest ≡ uploaded (flying (at_rest v) flights) op rest n
+  state_is flights rest = ap (λ (w : World). state_of w None rest) world_is
+      ∙ ap (λ m. record (uploaded (flying (at_rest v) flights) op rest n) { client = record (uploaded (flying (at_rest v) flights) op rest n).client { remote = m; synced = w.client.synced.nodes } }) remote_is
+      ∙ ap (λ m. record (uploaded (flying (at_rest v) flights) op rest n) { client = record (uploaded (flying (at_rest v) flights) op rest n).client { synced = m } }) synced_is

@@ -1,0 +1,57 @@
+use Rattle.std.proofs.Common.{◌≡◌, [], ◌∷◌, sym, ◌∙◌, ap, subst, refl}
+use Rattle.nuc_run.specs.Good.{Good, HasPut}
+use Rattle.nuc_run.specs.Step.{as_planned}
+use Rattle.nuc_run.specs.World.{at_rest}
+use Rattle.nuc_run.specs.declared.world.World.{World}
+use Rattle.nuc_run.proofs.GoodLemmas.{upload_legal, upload_node, on_err}
+use Rattle.nuc_run.proofs.RunLemmas.{began_at, did_end}
+use Rattle.nuc_run.proofs.UploadAnswers.{began_before, did_start, did_take, did_upload, flying, good_uploaded, local_is, state_is, synced_is}
+use Rattle.nuc_run.proofs.UploadLemmas.{uploaded}
+use Rattle.nuc_run.proofs.world.World.upload.Goals as goal
+
+pub take-requires-clause-legal : goal.take-requires-clause-legal
+take-requires-clause-legal c =
+    upload_legal _ c.requires.good _ c.requires.upload _ _ c.requires.good.step.served (upload_node _ _ _ c.requires.upload _ c.in-Put.is)
+
+pub done-requires-clause-remote : goal.done-requires-clause-remote
+done-requires-clause-remote c =
+    upload_legal _ c.requires.good _ c.requires.upload _ _ (ap (λ (w : World). w.client.remote.nodes) c.in_ok-take.ensures.server ∙ c.requires.good.step.pulled)
+      (upload_node _ _ _ c.requires.upload _ c.in-Put.is)
+
+pub done-requires-clause-synced : goal.done-requires-clause-synced
+done-requires-clause-synced c =
+    upload_legal _ c.requires.good _ c.requires.upload _ _ (ap (λ (w : World). w.client.synced.nodes) c.in_ok-take.ensures.server)
+      (upload_node _ _ _ c.requires.upload _ c.in-Put.is)
+
+pub returns-in_err-start-clause-err : goal.returns-in_err-start-clause-err
+returns-in_err-start-clause-err c =
+    on_err c.from_residual.result (λ rest. began_before (at_rest c.args.self.now) c.args.op.now _ _ rest c.in_err-start.ensures.err)
+
+pub returns-in_err-take-clause-err : goal.returns-in_err-take-clause-err
+returns-in_err-take-clause-err c =
+    on_err c.from_residual-in_err-take.result (λ rest. began_at (did_start _ c.requires.good _ c.requires.upload _ _ c.in_ok-start.ensures.step rest _ c.in_err-take.ensures.err))
+
+pub returns-in_err-done-clause-err : goal.returns-in_err-done-clause-err
+returns-in_err-done-clause-err c =
+    on_err c.from_residual-in_err-done.result (λ rest. began_at (did_take _ c.requires.good _ c.requires.upload _ _ c.in_ok-start.ensures.step rest _ (c.in_err-done.ensures.err ∙ c.in_ok-take.ensures.step)))
+
+pub returns-clause-good : goal.returns-clause-good
+returns-clause-good c =
+    let is = upload_node _ _ _ c.requires.upload _ c.in-Put.is in
+    let state = state_is _ _ _ c.args.op.now _ c.in_ok-take.ensures.server c.in_ok-done.ensures.others c.in_ok-done.ensures.remote c.in_ok-done.ensures.synced [] [] in
+    subst Good (sym (state ∙ ap (λ n. uploaded (flying (at_rest c.args.self.now) []) c.args.op.now [] n) is)) (good_uploaded _ c.requires.good _ c.requires.upload [] [])
+
+pub returns-clause-local : goal.returns-clause-local
+returns-clause-local c = local_is _ _ _ c.args.op.now _ c.in_ok-take.ensures.server c.in_ok-done.ensures.others c.in_ok-done.ensures.remote c.in_ok-done.ensures.synced
+
+pub returns-clause-synced : goal.returns-clause-synced
+returns-clause-synced c =
+    subst (HasPut _ _ c.args.op.now.id.0) (sym c.in-Put.is)
+      (synced_is _ _ _ c.args.op.now _ c.in_ok-take.ensures.server c.in_ok-done.ensures.others c.in_ok-done.ensures.remote c.in_ok-done.ensures.synced)
+
+pub returns-clause-step : goal.returns-clause-step
+returns-clause-step c = λ rest.
+    let is = upload_node _ _ _ c.requires.upload _ c.in-Put.is in
+    let state = state_is _ _ _ c.args.op.now _ c.in_ok-take.ensures.server c.in_ok-done.ensures.others c.in_ok-done.ensures.remote c.in_ok-done.ensures.synced (as_planned c.args.op.now ∷ rest) rest in
+    did_end (did_upload _ c.requires.good _ c.requires.upload _ _ c.in_ok-start.ensures.step rest _ _ c.in_ok-take.ensures.step c.in_ok-done.ensures.step)
+      (sym (state ∙ ap (λ n. uploaded (flying (at_rest c.args.self.now) (as_planned c.args.op.now ∷ rest)) c.args.op.now rest n) is))
