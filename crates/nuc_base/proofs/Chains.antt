@@ -4,11 +4,11 @@ use Rattle.std.specs.Option.{is_some}
 use Rattle.std.specs.FinMap.{get, insert, remove, len, empty, len-remove, empty_of_len, get-empty}
 use Rattle.std.specs.Ordering.{nat_cmp}
 use Rattle.std.proofs.lemmas.Cmp.{nat_cmp_total}
-use Rattle.nuc_base.specs.Trees.{Nodes, Under, Steps, IsUnder, NoChild}
+use Rattle.nuc_base.specs.Trees.{Nodes, Steps, IsUnder, NoChild}
 use Rattle.nuc_base.specs.Trees.Under.{here, up}
 use Rattle.nuc_base.specs.Trees.Steps.{done, step}
 use Rattle.nuc_base.specs.declared.node.Node.{Node}
-use Rattle.nuc_base.proofs.Maps.{same_or_not, one_node, not_both, get_put_other, get_cut_other, get_cut_same, after_put, after_cut}
+use Rattle.nuc_base.proofs.Maps.{same_or_not, one_node, not_both, get_put_other, get_cut_other, get_cut_same, after_cut}
 
 pub under_trans : (m : Nodes) (b a c : ℕ) → IsUnder m a b → IsUnder m b c → IsUnder m a c
 under_trans m b a c here u = u

@@ -1,5 +1,5 @@
 -- Legal changes keep a tree well formed.
-use Rattle.std.proofs.Common.{◌≡◌, ◌≢◌, ◌⊎◌, ◌<◌, ℕ, Some, None, refl, sym, ap, subst, ◌∙◌, inl, inr, arith}
+use Rattle.std.proofs.Common.{◌≡◌, ◌≢◌, ◌<◌, ℕ, Some, sym, subst, ◌∙◌, inl, inr, arith}
 use Rattle.std.specs.FinMap.{get, insert, remove, empty, get-empty}
 use Rattle.std.specs.Ordering.{nat_cmp}
 use Rattle.nuc_base.specs.Kinds.{FitsKind}
@@ -7,7 +7,6 @@ use Rattle.nuc_base.specs.Legal.{SameKind, LegalPut, LegalCut}
 use Rattle.nuc_base.specs.SamePlace.{SamePlace, same_place-sym}
 use Rattle.nuc_base.specs.Trees.{Nodes, IsFolder, IsUnder, WellFormed}
 use Rattle.nuc_base.specs.Trees.Under.{here, up}
-use Rattle.nuc_base.specs.declared.node.Kind.TheVariants.{Folder}
 use Rattle.nuc_base.specs.declared.node.Node.{Node}
 use Rattle.nuc_base.proofs.Maps.{same_or_not, not_both, get_put_same, get_put_other, get_cut_same, get_cut_other, after_put, after_cut}
 use Rattle.nuc_base.proofs.Chains.{under_trans, under_put, under_before_put, under_cut, under_before_cut, under_childless}

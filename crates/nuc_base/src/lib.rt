@@ -6,6 +6,8 @@ mod name;
 mod name_fault;
 mod node;
 mod path;
+#[cfg(test)]
+mod tests;
 mod tree;
 mod tree_fault;
 

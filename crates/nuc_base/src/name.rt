@@ -39,6 +39,7 @@ impl Name {
         Ok(Name { bytes })
     }
 
+    /// UTF-8, without a terminator.
     pub fn bytes(&self) -> &[u8]
         ensures value { result.now ≡ self.now }
         ensures name { IsName self.now }
@@ -46,6 +47,7 @@ impl Name {
         &self.bytes
     }
 
+    /// The same name, in memory of its own.
     pub fn copy(&self, alloc: Global) -> Result<Name, AllocError>
         ensures { IfOk result (λ n. n ≡ self.now) }
     {
@@ -61,6 +63,7 @@ impl Name {
     }
 }
 
+/// Whether the bytes are a name, and if not, the first reason why.
 fn check(bytes: &[u8]) -> Result<(), NameFault>
     ensures { MatchResult result (λ _. IsName bytes.now) (λ e. NameFaulty bytes.now e) }
 {

@@ -26,6 +26,7 @@ pub struct Place {
 }
 
 impl Place {
+    /// The same place, with a name in memory of its own.
     pub fn copy(&self, alloc: Global) -> Result<Place, AllocError>
         ensures { IfOk result (λ p. p ≡ self.now) }
     {
@@ -48,6 +49,7 @@ pub struct Node {
 }
 
 impl Node {
+    /// The same node, with a name in memory of its own.
     pub fn copy(&self, alloc: Global) -> Result<Node, AllocError>
         ensures { IfOk result (λ n. n ≡ self.now) }
     {

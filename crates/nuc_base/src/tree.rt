@@ -1,8 +1,9 @@
 ghost use Rattle.std.specs.Prelude.{◌≡◌, ◌≢◌, ◌≤◌, ◌<◌, ◌+◌, ℕ, Some, None, IfOk, IfErr, OnOk, OnErr, IsErrOf, IfSome, IsSomeAnd, MatchBool, MatchOption, option_copied, option_map, slice_get};
 ghost use Rattle.std.specs.FinMap as map;
-ghost use Rattle.nuc_base.specs.Faults.{PutFaulty, CutFaulty, room_for};
+ghost use Rattle.nuc_base.specs.Faults.{PutFaulty, CutFaulty};
 ghost use Rattle.nuc_base.specs.Kinds.{FitsKind};
 ghost use Rattle.nuc_base.specs.Legal.{LegalPut, LegalCut};
+ghost use Rattle.nuc_base.specs.Room.{room_for};
 ghost use Rattle.nuc_base.specs.declared.node.Place.{Place};
 ghost use Rattle.nuc_base.specs.Trees.{Nodes, WellFormed, IsUnder, IsVacant, StandsAt, HasChild, NoChild};
 
@@ -23,6 +24,7 @@ pub trait TreeLike {
         ensures empty { IfOk result (λ t. nodes t ≡ map.empty) }
         ensures tree { IfOk result (λ t. WellFormed (nodes t)) };
 
+    /// The node of an identity. The root has none.
     fn get(&self, id: NodeId) -> Option<&Node>
         ensures { option_copied result ≡ map.get (nodes self.now) id.0 };
 
@@ -30,6 +32,7 @@ pub trait TreeLike {
     fn at(&self, parent: NodeId, name: &Name) -> Option<NodeId>
         ensures { let place : Place = record { parent = parent; name = name.now } in MatchOption result (IsVacant (nodes self.now) place) (λ x. StandsAt (nodes self.now) x.0 place) };
 
+    /// Whether a node has this parent.
     fn has_child(&self, id: NodeId) -> bool
         ensures { MatchBool result (HasChild (nodes self.now) id.0) (NoChild (nodes self.now) id.0) };
 

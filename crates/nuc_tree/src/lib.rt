@@ -2,6 +2,8 @@
 #![tactic(auto)]
 
 mod entry;
+#[cfg(test)]
+mod tests;
 mod tree;
 
 pub use tree::Tree;

@@ -1,8 +1,8 @@
-use Rattle.std.proofs.Common.{◌≡◌, ℕ, List, sym, ◌∙◌}
+use Rattle.std.proofs.Common.{◌≡◌, sym, ◌∙◌}
 use Rattle.std.proofs.lemmas.Bool.Decides.{Decides-eqb}
 use Rattle.std.proofs.lemmas.Slice.Eq.{slice_eq-Decides}
-use Rattle.nuc_base.specs.SamePlace.{SameName, equal_names-same, same_name-equal}
-use Rattle.nuc_base.proofs.Tests.{cases_of_decides}
+use Rattle.nuc_base.specs.SamePlace.{equal_names-same, same_name-equal}
+use Rattle.nuc_base.proofs.Answered.{cases_of_decides}
 use Rattle.nuc_base.proofs.name.Name.same.Goals as goal
 
 pub returns : goal.returns

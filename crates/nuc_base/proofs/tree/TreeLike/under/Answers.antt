@@ -1,9 +1,9 @@
-use Rattle.std.proofs.Common.{◌≡◌, ◌≢◌, ◌+◌, ◌≤◌, ℕ, Some, rules, arith, refl, sym, subst}
+use Rattle.std.proofs.Common.{◌≡◌, ◌≢◌, Some, rules, arith, sym, subst}
 use Rattle.std.specs.FinMap as map
-use Rattle.nuc_base.specs.Trees.{IsUnder, Steps}
+use Rattle.nuc_base.specs.Trees.{IsUnder}
 use Rattle.nuc_base.specs.Trees.Under.{here, up}
 use Rattle.nuc_base.proofs.Chains.{short_chain, next_step, no_step}
-use Rattle.nuc_base.proofs.Tests.{cases_of_eqb}
+use Rattle.nuc_base.proofs.Answered.{cases_of_eqb}
 use Rattle.nuc_base.proofs.tree.TreeLike.under.Goals as goal
 
 pub loop-init : goal.loop-init
