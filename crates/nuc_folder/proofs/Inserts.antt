@@ -1,5 +1,5 @@
 -- What an insert keeps of a list, and where the first element stands that passes a test.
-use Rattle.std.proofs.Common.{◌≡◌, ℕ, suc, ◌+◌, ◌-◌, ◌<◌, ◌≤◌, Bool, true, false, List, length, get_or, Option, Some, None, not, refl, sym, subst, ◌∙◌, ap, inl, inr, arith, length-append, position, unwrap_or, insert, All, AllPairs}
+use Rattle.std.proofs.Common.{◌≡◌, ℕ, ◌+◌, ◌-◌, ◌<◌, ◌≤◌, Bool, true, false, List, length, get_or, None, not, refl, sym, subst, inl, inr, arith, position, unwrap_or, insert, All, AllPairs}
 use Rattle.std.specs.List.{position_or_len}
 use Rattle.std.proofs.lemmas.Bool.{cases_lt}
 use Rattle.std.proofs.lemmas.Bool.Decides.{nat_tests}
