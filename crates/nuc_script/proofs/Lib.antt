@@ -1,4 +1,5 @@
 pub mod Fronts
 pub mod Lines
+pub mod OneReading
 pub mod Scripts
 pub mod Words

@@ -1,5 +1,5 @@
 -- What the reading of a script takes from its source.
-use Rattle.std.specs.Prelude.{◌≡◌, ◌≢◌, ℕ, ◌+◌, ◌<◌, ◌≤◌, List, [], ◌∷◌, ◌++◌, length, Option}
+use Rattle.std.specs.Prelude.{◌≡◌, ◌≢◌, ℕ, ◌+◌, ◌<◌, ◌≤◌, List, [], ◌∷◌, ◌++◌, length, Option, Some}
 use Rattle.std.specs.List.{concat, AllByRecursion}
 use Rattle.nuc_base.specs.declared.fault.LineFault.TheVariants.{NotBuilt}
 use Rattle.nuc_io.specs.Reading.{Took, AtEnd}
@@ -40,3 +40,15 @@ IsCommands (read.Commands cs) = Unit {0}
 IsCommands (read.Fault number kind) = ⊥
 IsCommands read.ReadFault = ⊥
 IsCommands read.Memory = ⊥
+
+-- a script or a fault of one of its lines
+abbrev pub IsAnswered : ScriptRead → Type 0
+IsAnswered (read.Commands cs) = Unit {0}
+IsAnswered (read.Fault number kind) = Unit {0}
+IsAnswered read.ReadFault = ⊥
+IsAnswered read.Memory = ⊥
+
+-- what was left and what is left admit one answer
+abbrev pub OneReading : Type 0
+OneReading = (left rest : List ℕ) (a b : ScriptRead) → IsAnswered a → IsAnswered b
+    → ReadsScript (Some left) a (Some rest) → ReadsScript (Some left) b (Some rest) → a ≡ b

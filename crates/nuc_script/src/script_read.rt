@@ -1,3 +1,5 @@
+ghost use Rattle.nuc_script.specs.Reading.{OneReading};
+
 use crate::Command;
 use nuc_base::LineFault;
 use sqlite_items::Items;
@@ -13,3 +15,8 @@ pub enum ScriptRead {
     ReadFault,
     Memory,
 }
+
+/// The bytes that were taken and those that are left decide a script and a fault of its lines.
+pub fn is_read_in_one_way()
+    ensures { OneReading }
+{}

@@ -109,6 +109,7 @@ fn a_write_has_its_name_and_bytes(rt: HostRuntime) -> Result<(), Fail> {
         _ => false,
     };
     assert!(rt; as_written);
+    is_read_in_one_way();
     Ok(())
 }
 

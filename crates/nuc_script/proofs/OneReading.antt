@@ -1,0 +1,135 @@
+-- The bytes that were taken are read in one way.
+use Rattle.std.proofs.Common.{◌≡◌, ◌≢◌, ◌⊎◌, ℕ, ◌+◌, true, ltb, List, [], ◌∷◌, ◌++◌, length, drop, get_or, Option, Some, unwrap_or, codes, refl, sym, ap, subst, ◌∙◌, inl, inr, arith, append_assoc, length-append}
+use Rattle.std.specs.List.{list_all}
+use Rattle.std.proofs.lemmas.List.{append-nil, append_cancel_right, get_or_at}
+use Rattle.std.proofs.lemmas.List.Elements.{All-head, All-tail, All-append}
+use Rattle.std.proofs.lemmas.List.Sums.{AllPass-from_list_all}
+use Rattle.nuc_io.specs.Reading.{Took}
+use Rattle.nuc_io.specs.Line.{IsOneLine}
+use Rattle.nuc_script.specs.Text.{command_line, command_text, script_text}
+use Rattle.nuc_script.specs.Grammar.{IsPlain, IsBuilt, IsCommand, MayFollow, ComeBehind, IsScript}
+use Rattle.nuc_script.specs.Reading.{by_lf, by_end, cut_off, IsBadLine, ReadsScript, IsAnswered}
+use Rattle.nuc_script.specs.Steps.{written}
+use Rattle.nuc_script.specs.declared.command.Command.{Command}
+use Rattle.nuc_script.specs.declared.script_read.ScriptRead.{ScriptRead}
+use Rattle.nuc_script.specs.declared.script_read.ScriptRead.TheVariants as read
+use Rattle.nuc_script.proofs.Words.{built_cases, write_line, sync_line, line_unique}
+use Rattle.nuc_script.proofs.Scripts.{script_grows}
+
+high_is_one_line : (bytes : List ℕ) → list_all (λ b. ltb 10 b) bytes ≡ true → IsOneLine bytes
+high_is_one_line bytes high = λ k d below lf.
+    let above : ltb 10 10 ≡ true = subst (λ b. ltb 10 b ≡ true) lf (AllPass-from_list_all (λ b. ltb 10 b) bytes high k d below) in
+    cc
+
+plain_is_one_line : (bytes : List ℕ) → IsPlain bytes → IsOneLine bytes
+plain_is_one_line bytes plain = λ k d below lf. omega (arith, (plain k d below).0, lf)
+
+-- a command's line is one line
+line_is_one : (c : Command) → IsBuilt c → IsOneLine (command_line c)
+line_is_one c built =
+    elim (built_cases c built) [
+      | inl w ↦
+          subst IsOneLine (sym (ap command_line w.3 ∙ write_line w.0 w.1))
+          (All-append (λ b. b ≢ 10) (codes "write 1 /") (written w.0 w.1) (high_is_one_line (codes "write 1 /") refl)
+          (All-append (λ b. b ≢ 10) w.0 (codes " =" ++ w.1) (plain_is_one_line w.0 w.2.1)
+          (All-append (λ b. b ≢ 10) (codes " =") w.1 (high_is_one_line (codes " =") refl) (plain_is_one_line w.1 w.2.2))))
+      | inr s ↦ subst IsOneLine (sym (ap command_line s ∙ sync_line)) (high_is_one_line (codes "sync 1") refl)
+    ]
+
+lf_within : (front rest : List ℕ) → IsOneLine (front ++ 10 ∷ rest) → ⊥
+lf_within front rest one_line =
+    one_line (length front) 0 (omega (arith, length-append front (10 ∷ rest))) (get_or_at front 10 rest 0 (length front) refl)
+
+-- bytes are cut in one way behind their first LF
+cut_at_lf : (xs us ys vs : List ℕ) → IsOneLine xs → IsOneLine us → xs ++ 10 ∷ ys ≡ us ++ 10 ∷ vs → (xs ≡ us) × (ys ≡ vs)
+cut_at_lf [] [] ys vs one one' same = (refl, ap (λ l. drop 1 l) same)
+cut_at_lf [] (u ∷ us) ys vs one one' same = absurd (All-head (λ b. b ≢ 10) u us one' (sym (ap (λ l. get_or l 0 0) same)))
+cut_at_lf (x ∷ xs) [] ys vs one one' same = absurd (All-head (λ b. b ≢ 10) x xs one (ap (λ l. get_or l 0 0) same))
+cut_at_lf (x ∷ xs) (u ∷ us) ys vs one one' same =
+    let head : x ≡ u = ap (λ l. get_or l 0 0) same in
+    let tail : xs ++ 10 ∷ ys ≡ us ++ 10 ∷ vs = ap (λ l. drop 1 l) same in
+    let (fronts, rests) = cut_at_lf xs us ys vs (All-tail (λ b. b ≢ 10) x xs one) (All-tail (λ b. b ≢ 10) u us one') tail in
+    (ap (λ l. x ∷ l) fronts ∙ ap (λ h. h ∷ us) head, rests)
+
+-- behind these commands the bytes end, or go on with a line that is none of a script
+abbrev GoesOn : List Command → List ℕ → Option (List ℕ) → Type 0
+GoesOn cs more rest = (more ≡ []) ⊎ IsBadLine cs more rest
+
+-- they don't go on with a command that may come
+no_longer : (before : List Command) (c : Command) (tail more : List ℕ) (rest : Option (List ℕ)) → IsScript before → IsCommand c → MayFollow before c
+    → GoesOn before more rest → command_text c ++ tail ≢ more
+no_longer before c tail more rest script is may goes same =
+    let regrouped : command_line c ++ 10 ∷ tail ≡ more = sym (append_assoc (command_line c) (10 ∷ []) tail) ∙ same in
+    let within : IsOneLine more → ⊥ = λ one_line. lf_within (command_line c) tail (subst IsOneLine (sym regrouped) one_line) in
+    elim goes [
+      | inl ends ↦ omega (arith, ap length (same ∙ ends), length-append (command_text c) tail, length-append (command_line c) (10 ∷ []))
+      | inr bad ↦ elim bad.cut [
+        | by_lf text one_line short is_text ↦
+            let lines = cut_at_lf (command_line c) text tail [] (line_is_one c is.built) one_line (regrouped ∙ is_text) in
+            bad.no_command c (script_grows before c script is may) (is_text ∙ ap (λ l. l ++ 10 ∷ []) (sym lines.0))
+        | by_end one_line some short ends ↦ within one_line
+        | cut_off one_line long ↦ within one_line
+      ]
+    ]
+
+one_script : (before cs ds : List Command) (more other : List ℕ) (rest : Option (List ℕ)) → IsScript before → ComeBehind before cs → ComeBehind before ds
+    → GoesOn (before ++ cs) more rest → GoesOn (before ++ ds) other rest → script_text cs ++ more ≡ script_text ds ++ other
+    → (cs ≡ ds) × (more ≡ other)
+one_script before [] [] more other rest script come come' goes goes' same = (refl, same)
+one_script before (c ∷ cs) [] more other rest script (is, may, come) come' goes goes' same =
+    absurd (no_longer before c (script_text cs ++ more) other rest script is may (subst (λ l. GoesOn l other rest) (append-nil before) goes')
+    (sym (append_assoc (command_text c) (script_text cs) more) ∙ same))
+one_script before [] (d ∷ ds) more other rest script come (is, may, come') goes goes' same =
+    absurd (no_longer before d (script_text ds ++ other) more rest script is may (subst (λ l. GoesOn l more rest) (append-nil before) goes)
+    (sym (append_assoc (command_text d) (script_text ds) other) ∙ sym same))
+one_script before (c ∷ cs) (d ∷ ds) more other rest script (is, may, come) (is', may', come') goes goes' same =
+    let regroup : (e : Command) (es : List Command) (l : List ℕ) → (command_text e ++ script_text es) ++ l ≡ command_line e ++ 10 ∷ (script_text es ++ l) =
+    λ e es l. append_assoc (command_text e) (script_text es) l ∙ append_assoc (command_line e) (10 ∷ []) (script_text es ++ l) in
+    let lines = cut_at_lf (command_line c) (command_line d) (script_text cs ++ more) (script_text ds ++ other) (line_is_one c is.built) (line_is_one d is'.built)
+    (sym (regroup c cs more) ∙ same ∙ regroup d ds other) in
+    let heads : c ≡ d = line_unique c d is is' lines.0 in
+    let (tails, rests) = one_script (before ++ c ∷ []) cs ds more other rest (script_grows before c script is may) come
+    (subst (λ e. ComeBehind (before ++ e ∷ []) ds) (sym heads) come')
+    (subst (λ l. GoesOn l more rest) (sym (append_assoc before (c ∷ []) cs)) goes)
+    (subst (λ l. GoesOn l other rest) (sym (append_assoc before (c ∷ []) ds)) (subst (λ e. GoesOn (before ++ e ∷ ds) other rest) (sym heads) goes'))
+    lines.1 in
+    (ap (λ l. c ∷ l) tails ∙ ap (λ e. e ∷ ds) heads, rests)
+
+taken_is : (left taken rest : List ℕ) → Took (Some left) taken (Some rest) → left ≡ taken ++ rest
+taken_is left taken rest (behind, same, cut) = cut ∙ ap (λ o. taken ++ unwrap_or o []) (sym same)
+
+same_taken : (left one two rest : List ℕ) → Took (Some left) one (Some rest) → Took (Some left) two (Some rest) → one ≡ two
+same_taken left one two rest first second = append_cancel_right one two rest (sym (taken_is left one rest first) ∙ taken_is left two rest second)
+
+not_empty : (cs : List Command) (line : List ℕ) (rest : Option (List ℕ)) → IsBadLine cs line rest → [] ≢ line
+not_empty cs line rest bad same =
+    elim bad.cut [
+      | by_lf text one_line short is_text ↦ omega (arith, ap length (same ∙ is_text), length-append text (10 ∷ []))
+      | by_end one_line some short ends ↦ omega (arith, ap length same, some)
+      | cut_off one_line long ↦ omega (arith, ap length same, long)
+    ]
+
+pub one_reading : (left rest : List ℕ) (a b : ScriptRead) → IsAnswered a → IsAnswered b
+    → ReadsScript (Some left) a (Some rest) → ReadsScript (Some left) b (Some rest) → a ≡ b
+one_reading left rest (read.Commands cs) (read.Commands ds) _ _ (script, took, ends) (script', took', ends') =
+    let texts = same_taken left (script_text cs) (script_text ds) rest took took' in
+    ap (λ l. read.Commands l)
+    (one_script [] cs ds [] [] (Some rest) tt script script' (inl refl) (inl refl) (append-nil (script_text cs) ∙ texts ∙ sym (append-nil (script_text ds)))).0
+one_reading left rest (read.Commands cs) (read.Fault number kind) _ _ (script, took, ends) (not_built, (ds, line, script', numbered, bad, took')) =
+    let texts = same_taken left (script_text cs) (script_text ds ++ line) rest took took' in
+    absurd (not_empty ds line (Some rest) bad
+    (one_script [] cs ds [] line (Some rest) tt script script' (inl refl) (inr bad) (append-nil (script_text cs) ∙ texts)).1)
+one_reading left rest (read.Fault number kind) (read.Commands ds) _ _ (not_built, (cs, line, script, numbered, bad, took)) (script', took', ends') =
+    let texts = same_taken left (script_text cs ++ line) (script_text ds) rest took took' in
+    absurd (not_empty cs line (Some rest) bad
+    (sym (one_script [] cs ds line [] (Some rest) tt script script' (inr bad) (inl refl) (texts ∙ sym (append-nil (script_text ds)))).1))
+one_reading left rest (read.Fault number kind) (read.Fault number' kind') _ _ (not_built, (cs, line, script, numbered, bad, took)) (not_built', (ds, line', script', numbered', bad', took')) =
+    let texts = same_taken left (script_text cs ++ line) (script_text ds ++ line') rest took took' in
+    let scripts = (one_script [] cs ds line line' (Some rest) tt script script' (inr bad) (inr bad') texts).0 in
+    ap (λ n. read.Fault n kind) (numbered ∙ ap (λ l. length l + 1) scripts ∙ sym numbered') ∙ ap (λ k. read.Fault number' k) (not_built ∙ sym not_built')
+one_reading left rest (read.Commands cs) read.ReadFault _ never _ _ = absurd never
+one_reading left rest (read.Commands cs) read.Memory _ never _ _ = absurd never
+one_reading left rest (read.Fault number kind) read.ReadFault _ never _ _ = absurd never
+one_reading left rest (read.Fault number kind) read.Memory _ never _ _ = absurd never
+one_reading left rest read.ReadFault b never _ _ _ = absurd never
+one_reading left rest read.Memory b never _ _ _ = absurd never
