@@ -1,4 +1,4 @@
-use Rattle.std.specs.Prelude.{◌≡◌, ◌≢◌, ℕ, Option, Some, None}
+use Rattle.std.specs.Prelude.{◌≡◌, ◌≢◌, ℕ, None}
 use Rattle.std.specs.FinMap.{get}
 use Rattle.nuc_base.specs.Legal.{SameKind, IsFree}
 use Rattle.nuc_base.specs.Trees.{Nodes, IsThere, IsFolder, IsUnder, StandsAt, HasChild}
@@ -22,8 +22,3 @@ PutFaulty m x node put.Memory = Unit {0}
 abbrev pub CutFaulty : Nodes → ℕ → CutFault → Type 0
 CutFaulty m x cut.Absent = get m x ≡ None
 CutFaulty m x cut.NotEmpty = IsThere m x × HasChild m x
-
--- the spare room that a put may take: one where a node is new, none where one stands there
-abbrev pub room_for : Option Node → ℕ
-room_for None = 1
-room_for (Some n) = 0

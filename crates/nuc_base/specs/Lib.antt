@@ -4,5 +4,6 @@ pub mod Kinds
 pub mod Legal
 pub mod NameFaults
 pub mod Names
+pub mod Room
 pub mod SamePlace
 pub mod Trees

@@ -1,10 +1,11 @@
 -- When two names are one name among siblings, and two places one place. The meaning of `SameName` is sealed here:
 -- other proofs use the lemmas below, and only that of `Name::same` the last one.
-use Rattle.std.specs.Prelude.{◌≡◌, ℕ, Bool, true, false, List, MatchBool, refl}
+use Rattle.std.specs.Prelude.{◌≡◌, ◌⊎◌, ℕ, Bool, true, false, T, List, MatchBool, refl}
 use Rattle.std.specs.Bool.{Decides}
 use Rattle.std.specs.Str.{bytes_eq}
+use Rattle.std.proofs.Common.{sym, subst, ◌∙◌, inl, inr}
+use Rattle.std.proofs.lemmas.Bool.Decides.{eqb_tells}
 use Rattle.std.proofs.lemmas.Slice.Eq.{bytes_eq-Decides}
-use Rattle.std.proofs.Common.{sym, ◌∙◌}
 use Rattle.nuc_base.specs.declared.node.Place.{Place}
 
 -- today equality of bytes
@@ -27,6 +28,15 @@ pub same_name-trans : (a b c : List ℕ) → SameName a b → SameName b c → S
 unfolding SameName
 same_name-trans a b c s t = s ∙ t
 
+pub same_name-or_not : (a b : List ℕ) → SameName a b ⊎ ¬ (SameName a b)
+unfolding SameName
+same_name-or_not a b =
+    let decides = bytes_eq-Decides a b in
+    elim (bytes_eq a b) as (λ t. Decides t (a ≡ b) → (a ≡ b) ⊎ ¬ (a ≡ b)) [
+      | true ↦ λ d. inl (d.0 refl)
+      | false ↦ λ d. inr (λ e. subst T (sym (d.1 e)) tt)
+    ] decides
+
 pub same_place-refl : (p : Place) → SamePlace p p
 same_place-refl p = record { parent = refl; name = same_name-refl p.name }
 
@@ -35,6 +45,15 @@ same_place-sym p q s = record { parent = sym s.parent; name = same_name-sym _ _ 
 
 pub same_place-trans : (p q r : Place) → SamePlace p q → SamePlace q r → SamePlace p r
 same_place-trans p q r s t = record { parent = s.parent ∙ t.parent; name = same_name-trans _ _ _ s.name t.name }
+
+pub same_place-or_not : (p q : Place) → SamePlace p q ⊎ ¬ (SamePlace p q)
+same_place-or_not p q = elim (eqb_tells p.parent.0 q.parent.0) [
+  | inl (t, parent) ↦ elim (same_name-or_not p.name q.name) [
+    | inl name ↦ inl (record { parent = parent; name = name })
+    | inr other ↦ inr (λ s. other s.name)
+  ]
+  | inr (t, apart) ↦ inr (λ s. apart s.parent)
+]
 
 -- equal bytes are the same name
 pub equal_names-same : (a b : List ℕ) → a ≡ b → SameName a b

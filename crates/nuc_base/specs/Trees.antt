@@ -47,6 +47,8 @@ pub data Steps (m : Nodes) (b : ℕ) : ℕ → ℕ → Type 0 where
   done : Steps m b b 0
   step : (a k : ℕ) (n : Node) → get m a ≡ Some n → Steps m b n.place.parent.0 k → Steps m b a (suc k)
 
+-- the root has no node, each parent is the root or a folder, each chain of parents ends at the root, no place is taken
+-- twice, and each node fits its kind
 pub record WellFormed (m : Nodes) : Type 0 where
   pub no_root : get m 0 ≡ None
   pub parents : (x : ℕ) (n : Node) → get m x ≡ Some n → IsFolder m n.place.parent.0

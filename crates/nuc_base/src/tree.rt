@@ -1,8 +1,9 @@
 ghost use Rattle.std.specs.Prelude.{◌≡◌, ◌≢◌, ◌≤◌, ◌<◌, ◌+◌, ℕ, Some, None, IfOk, IfErr, OnOk, OnErr, IsErrOf, IfSome, IsSomeAnd, MatchBool, MatchOption, option_copied, option_map, slice_get};
 ghost use Rattle.std.specs.FinMap as map;
-ghost use Rattle.nuc_base.specs.Faults.{PutFaulty, CutFaulty, room_for};
+ghost use Rattle.nuc_base.specs.Faults.{PutFaulty, CutFaulty};
 ghost use Rattle.nuc_base.specs.Kinds.{FitsKind};
 ghost use Rattle.nuc_base.specs.Legal.{LegalPut, LegalCut};
+ghost use Rattle.nuc_base.specs.Room.{room_for};
 ghost use Rattle.nuc_base.specs.declared.node.Place.{Place};
 ghost use Rattle.nuc_base.specs.Trees.{Nodes, WellFormed, IsUnder, IsVacant, StandsAt, HasChild, NoChild};
 

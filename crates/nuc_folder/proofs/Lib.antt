@@ -1,3 +1,5 @@
+pub mod Formed
+pub mod Inserts
+pub mod NamesTold
 pub mod Refilled
-pub mod Tests
 pub mod Written

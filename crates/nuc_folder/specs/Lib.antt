@@ -1,3 +1,4 @@
 pub mod Folder
+pub mod Formed
 pub mod Listing
 pub mod Write

@@ -11,3 +11,6 @@ pub use item::{Item, Key, RawName};
 pub use mem_folder::MemFolder;
 pub use read_back::ReadBack;
 pub use user::{UserEdit, UserReply};
+
+#[cfg(test)]
+mod tests;

@@ -18,12 +18,16 @@ pub struct MemFolder {
 
 impl Model for MemFolder {
     ghost use Rattle.nuc_folder.specs.Folder.{FolderData};
+    ghost use Rattle.nuc_folder.specs.Formed.{IsFormed};
 
     ghost Value = { FolderData };
 
     ghost view = { λ f. record { files = f.files.items; next_key = f.next_key } };
+
+    ghost invariant = { λ f. IsFormed (record { files = f.files.items; next_key = f.next_key }) };
 }
 
+ghost use Rattle.nuc_folder.specs.Formed.{IsFormed};
 ghost use Rattle.nuc_folder.specs.Listing.{has_key, item_of, Reads};
 ghost use Rattle.nuc_folder.specs.Write.{Answers, comes_after, has_name, place_of, refilled, written, written_at};
 
@@ -64,6 +68,7 @@ impl MemFolder {
     }
 
     fn make(&mut self, alloc: Global, name: &Name, bytes: &[u8]) -> Result<(), AllocError>
+        requires { position (has_name name.now) self.old.files ≡ None }
         ensures ok { OnOk result (self.new ≡ written_at None name.now bytes.now self.old) }
         ensures err { OnErr result (self.new ≡ self.old) }
     {
@@ -77,7 +82,8 @@ impl MemFolder {
 
     /// The listing: a line for each file, in order.
     pub fn items(&self, alloc: Global) -> Result<Items<Item>, AllocError>
-        ensures { IfOk result (λ items. items ≡ map item_of self.now.files) }
+        ensures lines { IfOk result (λ items. items ≡ map item_of self.now.files) }
+        ensures formed { IsFormed self.now }
     {
         let mut items = Items::new(alloc);
         for file in &self.files {

@@ -1,15 +1,13 @@
 -- What a change at a position does to a list of entries.
-use Rattle.std.proofs.Common.{◌≡◌, ◌≢◌, ◌==◌, ◌<◌, ◌≤◌, ◌+◌, ◌⊎◌, ℕ, zero, suc, true, false, cond, not, List, [], ◌∷◌, length, map, get_or, set, Some, None, Option, refl, sym, ap, subst, ◌∙◌, inl, inr, arith}
-use Rattle.std.specs.Prelude.{T, slice_get, option_map}
+use Rattle.std.proofs.Common.{◌≡◌, ◌≢◌, ◌<◌, ℕ, zero, suc, true, false, cond, List, [], ◌∷◌, get_or, set, Some, None, refl, sym, ap, subst, ◌∙◌, inl, inr, arith}
 use Rattle.std.specs.List.{insert, remove}
 use Rattle.std.specs.Cmp.{unsigned_tied}
-use Rattle.std.specs.FinMap.{find, is_sorted}
+use Rattle.std.specs.FinMap.{find}
 use Rattle.std.specs.Ordering.{nat_cmp, eq_by_cmp}
-use Rattle.std.proofs.lemmas.Bool.Decides.{eqb_tells, nat_tests}
+use Rattle.std.proofs.lemmas.Bool.Decides.{eqb_tells}
 use Rattle.nuc_base.specs.declared.node.Node.{Node}
 use Rattle.nuc_tree.specs.Entries.{pairs, IsBelow, IsRising, IsFound, IsGap}
 use Rattle.nuc_tree.specs.declared.entry.Entry.{Entry}
-use Rattle.nuc_tree.proofs.Search.{below_found}
 
 abbrev pub entry_of : ℕ → Node → Entry
 entry_of x n = record { id = record { 0 = x }; node = n }

@@ -1,7 +1,7 @@
 use Rattle.std.proofs.Common.{◌≡◌, subst}
 use Rattle.nuc_folder.specs.Folder.{FileData}
 use Rattle.nuc_folder.specs.Write.{has_name}
-use Rattle.nuc_folder.proofs.Tests.{is_same_name-from_told}
+use Rattle.nuc_folder.proofs.NamesTold.{is_same_name-from_told}
 use Rattle.nuc_folder.proofs.mem_file.MemFile.has_name.Goals as goal
 
 pub returns : goal.returns

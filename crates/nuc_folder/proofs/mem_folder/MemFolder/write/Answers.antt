@@ -1,7 +1,9 @@
 use Rattle.std.proofs.Common.{◌≡◌, List, Some, None, position, sym, subst, ◌∙◌, ap}
 use Rattle.std.proofs.lemmas.List.{with_items_is}
 use Rattle.nuc_folder.specs.Folder.{FileData, FolderData}
+use Rattle.nuc_folder.specs.Formed.{IsFormed}
 use Rattle.nuc_folder.specs.Write.{has_name, refilled, written}
+use Rattle.nuc_folder.proofs.Formed.{formed-refill}
 use Rattle.nuc_folder.proofs.Written.{written-there, written-new, OnOk-then}
 use Rattle.nuc_folder.proofs.mem_folder.MemFolder.write.Goals as goal
 
@@ -25,3 +27,13 @@ returns-in-None-clause-ok c =
     ap (position (has_name name)) (sym c.deref.ensures.value) ∙ sym c.position_of.ensures ∙ c.in-None.is in
     let none_there = subst (λ (folder : FolderData). position (has_name name) folder.files ≡ None) c.self.view_is none in
     OnOk-then c.make.result c.make.ensures.ok (λ made. made ∙ sym (written-new name c.args.bytes.now c.args.self.now none_there))
+
+pub invariant_of-self : goal.invariant_of-self
+invariant_of-self c =
+    let before : FolderData = record { files = c.self.inside.files.items; next_key = c.self.inside.next_key } in
+    let after = c.refill_at.new.files in
+    let written_back = with_items_is c.self.inside.files after (c.refill_at.auto.files ∙ c.deref_mut.ensures.len) in
+    let refills = rw c.deref_mut.ensures.value at c.refill_at.ensures.ok in
+    let stays = rw c.deref_mut.ensures.value at c.refill_at.ensures.err in
+    subst (λ (files : List FileData). IsFormed (record before { files = files })) (sym written_back)
+    (formed-refill c.refill_at.result c.in-Some.index c.args.bytes.now before after c.self.invariant refills stays)

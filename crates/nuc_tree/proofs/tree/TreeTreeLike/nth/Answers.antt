@@ -1,5 +1,5 @@
-use Rattle.std.proofs.Common.{◌≡◌, Some, None, ap, sym, refl, ◌∙◌}
-use Rattle.std.specs.Prelude.{option_map, slice_get}
+use Rattle.std.proofs.Common.{ap, sym, ◌∙◌}
+use Rattle.std.specs.Prelude.{option_map}
 use Rattle.nuc_tree.proofs.Views.{nth_is, get_within, get_past}
 use Rattle.nuc_tree.proofs.tree.TreeTreeLike.nth.Goals as goal
 
