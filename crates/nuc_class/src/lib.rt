@@ -2,5 +2,7 @@
 #![tactic(auto)]
 
 mod op;
+#[cfg(test)]
+mod tests;
 
 pub use op::{Change, Effect, Op, Verb};

@@ -42,7 +42,8 @@ content_words None = codes "folder" ∷ codes "0" ∷ codes "-" ∷ []
 content_words (Some content) = codes "file" ∷ decimal content.size ∷ encode_lower content.hash.0 ∷ []
 
 abbrev pub item_line : Item → List ℕ
-item_line item = line (codes "item" ∷ decimal item.key.0 ∷ decimal item.parent.0 ∷ content_words item.content ++ escaped item.name ∷ [])
+item_line item =
+    line (codes "item" ∷ decimal item.key.0 ∷ decimal item.parent.0 ∷ content_words item.content ++ escaped item.name ∷ [])
 
 abbrev pub verb_word : Verb → List ℕ
 verb_word Up = codes "up"

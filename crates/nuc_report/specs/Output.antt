@@ -3,7 +3,7 @@ use Rattle.std.specs.Fmt.{decimal}
 use Rattle.nuc_base.specs.declared.fault.LineFault.{LineFault}
 use Rattle.nuc_base.specs.declared.fault.LineFault.TheVariants.{NotBuilt}
 use Rattle.nuc_step.specs.declared.log.LogEntry.{LogEntry}
-use Rattle.nuc_step.specs.declared.log.LogEntry.TheVariants.{Opened, Stepped}
+use Rattle.nuc_step.specs.declared.log.LogEntry.TheVariants.{Stepped}
 use Rattle.nuc_step.specs.declared.reply.Reply.TheVariants as reply
 use Rattle.nuc_step.specs.declared.reply.PlanReply.TheVariants as plan
 use Rattle.nuc_report.specs.declared.status.Status.{Status}
@@ -19,9 +19,9 @@ batched _ = 0
 
 -- steps and operations of batches; records, mends and copies don't occur yet
 abbrev pub summary_text : List LogEntry → List ℕ
-summary_text log = line (
-    codes "summary" ∷ decimal (length log) ∷ decimal (sum_by batched log) ∷ codes "0" ∷ codes "0" ∷ codes "0" ∷ []
-    )
+summary_text log =
+    let operations = decimal (sum_by batched log) in
+    line (codes "summary" ∷ decimal (length log) ∷ operations ∷ codes "0" ∷ codes "0" ∷ codes "0" ∷ [])
 
 abbrev pub status_number : Status → ℕ
 status_number status.Ok = 0
@@ -49,7 +49,7 @@ usage_text =
     ++ line (codes "  write 1 /PATH =BYTES  the user makes a file, or replaces its bytes" ∷ [])
     ++ line (codes "  sync 1                the client brings the server what is new" ∷ [])
 
--- all that a run prints that ended so: a run that couldn't begin has its status alone, one without room or sink nothing
+-- what a run prints that has no report: one that couldn't begin says why, one without sink or memory prints nothing
 abbrev pub refusal_text : Status → List ℕ
 refusal_text status.Ok = []
 refusal_text status.Usage = usage_text ++ status_text status.Usage

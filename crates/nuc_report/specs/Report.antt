@@ -61,9 +61,9 @@ kind_word File false = codes "file"
 kind_word File true = codes "program"
 
 abbrev pub node_line : ℕ → Node → List ℕ
-node_line id node = line (
-    codes "node" ∷ decimal id ∷ decimal node.place.parent.0 ∷ kind_word node.kind node.bit ∷ decimal node.ver.0 ∷ escaped node.place.name ∷ []
-    )
+node_line id node =
+    let kind = kind_word node.kind node.bit in
+    line (codes "node" ∷ decimal id ∷ decimal node.place.parent.0 ∷ kind ∷ decimal node.ver.0 ∷ escaped node.place.name ∷ [])
 
 -- the line of the node that stands there, if one does
 abbrev pub line_at : Nodes → ℕ → List ℕ

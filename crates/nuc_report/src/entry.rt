@@ -7,7 +7,7 @@ ghost use Rattle.std.specs.List.{flat_map};
 use crate::words::{escaped, filling_word, path_word};
 use nuc_class::{Op, Verb};
 use nuc_folder::{Item, UserEdit, UserReply};
-use nuc_hash::Content;
+use nuc_hash::{Content, hash_text};
 use nuc_step::{
     DoneReply, Event, LogEntry, MarkReply, PlanReply, Reply, ScanReply, StartReply, TakeReply,
 };
@@ -48,7 +48,7 @@ fn content_text(alloc: Global, content: &Option<Content>) -> Result<String, Allo
         None => String::from_str(alloc, "folder 0 -"),
         Some(content) => {
             let size = content.size();
-            let hash = hex::encode(alloc, content.hash().0.as_slice())?;
+            let hash = hash_text(alloc, content.hash())?;
             format!(in alloc; "file {size} {hash}")
         }
     }

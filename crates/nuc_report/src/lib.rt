@@ -4,6 +4,8 @@
 mod entry;
 mod state;
 mod status;
+#[cfg(test)]
+mod tests;
 mod whole;
 mod words;
 

@@ -10,6 +10,7 @@ use crate::entry::push_items;
 use crate::words::escaped;
 use nuc_base::{Kind, Node, NodeId, TreeLike};
 use nuc_edits::{Edit, EditKind, Edits};
+use nuc_hash::hash_text;
 use nuc_step::{ClientView, View};
 use std::alloc::{AllocError, Global};
 
@@ -154,7 +155,7 @@ fn change_text(alloc: Global, what: &EditKind) -> Result<String, AllocError>
     match what {
         EditKind::Put(content) => {
             let size = content.size();
-            let hash = hex::encode(alloc, content.hash().0.as_slice())?;
+            let hash = hash_text(alloc, content.hash())?;
             format!(in alloc; "put {size} {hash}")
         }
     }
