@@ -206,6 +206,14 @@ pub on_err : {T E P : Type 0} (r : Result T E) → P → OnErr r P
 on_err (Ok x) p = tt
 on_err (Err e) p = p
 
+pub ok_then : {T E P Q : Type 0} (r : Result T E) → OnOk r P → (P → Q) → OnOk r Q
+ok_then (Ok x) p f = f p
+ok_then (Err e) p f = tt
+
+pub err_then : {T E P Q : Type 0} (r : Result T E) → OnErr r P → (P → Q) → OnErr r Q
+err_then (Ok x) p f = tt
+err_then (Err e) p f = f p
+
 -- what an edit answers has the folder that it leads to
 pub answered_folder : (e : UserEdit) (old new : FolderData) (r : UserReply) → r ≢ reply.Memory → Answers e old r new → new ≡ (edited e old).1
 answered_folder e old new reply.Ok other answers = sym (ap (λ p. p.1) answers)

@@ -8,3 +8,4 @@ pub mod GoodLemmas
 pub mod OutcomeLemmas
 pub mod UploadAnswers
 pub mod BatchRun
+pub mod SyncLemmas

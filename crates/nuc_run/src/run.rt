@@ -1,14 +1,14 @@
-ghost use Rattle.std.specs.Prelude.{◌≡◌, ◌≢◌, ◌⊎◌, [], IfOk, IsTrue, MatchBool, OnErr, OnOk};
+ghost use Rattle.std.specs.Prelude.{◌≡◌, ◌≢◌, ◌⊎◌, [], IfOk, MatchBool, OnErr, OnOk};
 ghost use Rattle.nuc_io.specs.Causes.{HasCause};
 ghost use Rattle.nuc_report.specs.Output.{output_of, refusal_text};
-ghost use Rattle.nuc_report.specs.declared.status.Status.TheVariants as status;
 ghost use Rattle.nuc_run.specs.Good.{Good};
 ghost use Rattle.nuc_run.specs.Outcome.{AreRun, EndsAs, JudgesWords, RunsScript, WritesOutput, seen_in, whole_output};
-ghost use Rattle.nuc_run.specs.Runs.{IsEarlyLog, IsWholeLog, replay};
+ghost use Rattle.nuc_run.specs.Runs.{Began, Did, IsEarlyLog, IsWholeLog, replay};
 ghost use Rattle.nuc_run.specs.State.{fresh};
+ghost use Rattle.nuc_run.specs.Tasks.{tasks_of};
 ghost use Rattle.nuc_run.specs.World.{at_rest};
-ghost use Rattle.nuc_script.specs.Grammar.{IsScript};
-ghost use Rattle.nuc_script.specs.Reading.{IsCommands, TookLines};
+ghost use Rattle.nuc_script.specs.Grammar.{IsBuilt, IsScript};
+ghost use Rattle.nuc_script.specs.Reading.{TookLines};
 ghost use Rattle.std.specs.String.{string_bytes};
 
 use crate::world::{CLIENT, World};
@@ -102,14 +102,22 @@ fn run<K: Sink>(alloc: Global, commands: &[Command], output: &mut K) -> Ended
             log,
         };
     }
-    let status = match text_of(alloc, &world, &log) {
-        Ok(text) => send(output, text.as_str(), Status::Ok),
-        Err(_) => Status::Memory,
-    };
     Ended {
-        status,
+        status: report(alloc, &world, &log, output),
         before: Status::Ok,
         log,
+    }
+}
+
+/// Writes all that is printed of a run that ended well.
+fn report<K: Sink>(alloc: Global, world: &World, log: &Log, output: &mut K) -> Status
+    ensures status { EndsAs Status.Ok result }
+    ensures output { WritesOutput (K.held output.old) result (output_of Status.Ok log.now.entries (seen_in (at_rest world.now))) (K.held output.new) }
+    ensures write { HasCause (K.faults output.old) (K.faults output.new) (result ≡ Status.WriteFault) }
+{
+    match text_of(alloc, world, log) {
+        Ok(text) => send(output, text.as_str(), Status::Ok),
+        Err(_) => Status::Memory,
     }
 }
 
@@ -133,17 +141,32 @@ fn run_commands(
         kept: false,
     })?;
     for command in commands {
-        match command {
-            Command::User { edit, .. } => world.user(alloc, log, edit)?,
-            Command::Sync { .. } => world.sync(alloc, log)?,
-        }
+        run_command(alloc, world, log, command)?;
     }
     Ok(())
 }
 
+fn run_command(
+    alloc: Global,
+    world: &mut World,
+    log: &mut Log,
+    command: &Command,
+) -> Result<(), AllocError>
+    requires built { IsBuilt command.now }
+    requires good { Good (at_rest world.old) }
+    ensures good { OnOk result (Good (at_rest world.new)) }
+    ensures step { OnOk result (Did log.old.entries log.new.entries (at_rest world.old) (tasks_of command.now) (at_rest world.new) []) }
+    ensures err { OnErr result (Began log.old.entries log.new.entries (at_rest world.old) (tasks_of command.now)) }
+{
+    match command {
+        Command::User { edit, .. } => world.user(alloc, log, edit),
+        Command::Sync { .. } => world.sync(alloc, log),
+    }
+}
+
 /// All that is printed of a run that ended well.
 fn text_of(alloc: Global, world: &World, log: &Log) -> Result<String, AllocError>
-    ensures { IfOk result (λ text. string_bytes text ≡ output_of status.Ok log.now.entries (seen_in (at_rest world.now))) }
+    ensures { IfOk result (λ text. string_bytes text ≡ output_of Status.Ok log.now.entries (seen_in (at_rest world.now))) }
 {
     let items = world.folder.items(alloc)?;
     let client = ClientView {

@@ -96,7 +96,8 @@ impl World {
         self.scan(alloc, log, &items)?;
         self.pull(log)?;
         self.run_plans(alloc, log)?;
-        self.mark(log)
+        self.mark(log)?;
+        Ok(())
     }
 
     fn list(&self, alloc: Global, log: &mut Log) -> Result<Items<Item>, AllocError>
