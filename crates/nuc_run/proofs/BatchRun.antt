@@ -66,11 +66,11 @@ pub all_here_next : (s t : Nodes) (ops : List Op) (i : ℕ) (op : Op) (n : Node)
     → AllHere s (take i ops) → AllHere t (take (i + 1) ops)
 all_here_next s t ops i op n at kept is all = subst (AllHere t) (sym (take_at ops i op at))
     (here_append t (take i ops) op (here_kept s t (take i ops) kept all)
-      (n, subst (λ m. tree.get m op.id.0 ≡ Some n) (sym is) (get_put_same s op.id.0 n)))
+    (n, subst (λ m. tree.get m op.id.0 ≡ Some n) (sym is) (get_put_same s op.id.0 n)))
 
 -- the tasks and the flights of the operations from the i-th on
 module _ (ops : List Op) (i : ℕ) (op : Op) (at : slice_get ops i ≡ Some op) (v w u : World) (x y z : List LogEntry)
-         (sofar : Did x y (state_of v None (map as_planned ops)) (flat_map (steps_of 1) ops) (state_of w None (map as_planned (drop i ops))) (flat_map (steps_of 1) (drop i ops))) where
+    (sofar : Did x y (state_of v None (map as_planned ops)) (flat_map (steps_of 1) ops) (state_of w None (map as_planned (drop i ops))) (flat_map (steps_of 1) (drop i ops))) where
   sofar_next : Did x y (state_of v None (map as_planned ops)) (flat_map (steps_of 1) ops)
       (state_of w None (as_planned op ∷ map as_planned (drop (i + 1) ops))) (steps_of 1 op ++ flat_map (steps_of 1) (drop (i + 1) ops))
   sofar_next = subst (λ os. Did x y (state_of v None (map as_planned ops)) (flat_map (steps_of 1) ops) (state_of w None (map as_planned os)) (flat_map (steps_of 1) os)) (drop_at ops i op at) sofar
@@ -106,8 +106,8 @@ plan_tasks (op ∷ ops) some = refl
 
 -- v when the plans began, w now, p after the next plan
 module _ (v w p : World) (ops : List Op) (x y z : List LogEntry) (some : ops ≢ [])
-         (sofar : Did x y (at_rest v) (plans 1 ∷ []) (at_rest w) (plans 1 ∷ []))
-         (plan : Did y z (at_rest w) (plans 1 ∷ []) (state_of p None (map as_planned ops)) (after_plan 1 ops)) where
+    (sofar : Did x y (at_rest v) (plans 1 ∷ []) (at_rest w) (plans 1 ∷ []))
+    (plan : Did y z (at_rest w) (plans 1 ∷ []) (state_of p None (map as_planned ops)) (after_plan 1 ops)) where
   planned_ops : Did x z (at_rest v) (plans 1 ∷ []) (state_of p None (map as_planned ops)) (flat_map (steps_of 1) ops ++ plans 1 ∷ [])
   planned_ops = subst (λ ts. Did x z (at_rest v) (plans 1 ∷ []) (state_of p None (map as_planned ops)) ts) (plan_tasks ops some) (did_then sofar plan)
 
@@ -139,10 +139,10 @@ plan_of w p {y} {z} ops os same plan = subst (λ os. Did y z (at_rest w) (plans 
 pub planned_uploads : (k : ℕ) (r l s m t : Nodes) (ops os : List Op) → r ≡ s → ops ≡ batch k r l s → os ≡ ops → m ≡ l → t ≡ s → AllUploads m t os
 planned_uploads k r l s m t ops os same is handed local synced =
     subst (AllUploads m t) (sym (handed ∙ is))
-      (subst (λ m. AllUploads m t (batch k r l s)) (sym local) (subst (λ t. AllUploads l t (batch k r l s)) (sym synced) (batch_uploads k r l s same)))
+    (subst (λ m. AllUploads m t (batch k r l s)) (sym local) (subst (λ t. AllUploads l t (batch k r l s)) (sym synced) (batch_uploads k r l s same)))
 
 pub plans_lessen : (k : ℕ) (r l s p m t : Nodes) (ops os : List Op) → r ≡ s → p ≡ s → HasThem p t os → os ≡ ops → ops ≡ batch k r l s → os ≢ [] → m ≡ l
     → left_to_do m t < left_to_do l s
 plans_lessen k r l s p m t ops os same planned them handed is some local =
     subst (λ m. left_to_do m t < left_to_do l s) (sym local)
-      (less_left k r l s t os same (subst (λ s. AreKept s t) planned them.kept) (handed ∙ is) some them.them)
+    (less_left k r l s t os same (subst (λ s. AreKept s t) planned them.kept) (handed ∙ is) some them.them)

@@ -47,7 +47,7 @@ good_fresh = record {
     bound = λ x n e. absurd (not_both tree.empty x n (get-empty nat_cmp x) e);
     fresh = λ x h. refl;
     first = omega arith;
-    versions = record { some = omega arith; above = λ k d h. absurd (omega arith) }
+    versions = record { some = omega arith; above = λ k d h. absurd (omega arith) };
   };
   step = record {
     remote_form = empty_form;
@@ -55,8 +55,8 @@ good_fresh = record {
     served = refl;
     pulled = refl;
     cursor_is = refl;
-    within = λ x n e. absurd (not_both tree.empty x n (get-empty nat_cmp x) e)
-  }
+    within = λ x n e. absurd (not_both tree.empty x n (get-empty nat_cmp x) e);
+  };
 }
 
 -- THE FOLDER
@@ -117,11 +117,11 @@ observed_edited s e new is o = record {
         among = subst (λ f. IsAmong t.item (listing f)) (sym is) t.among;
         key = b.key ∙ ap Some (sym t.key);
         name = t.name ∙ b.name;
-        root = b.root
+        root = b.root;
       };
   fresh = o.fresh;
   first = o.first;
-  versions = o.versions
+  versions = o.versions;
 }
 
 -- no two items of a folder have one name
@@ -133,7 +133,7 @@ pub apart_of : (files : List FileData) → AllPairs (λ f g. ¬ (SameName f.name
 apart_of [] apart = tt
 apart_of (f ∷ fs) apart = (
   named_else f fs (λ k d h. apart 0 (suc k) d (omega arith) (omega arith)),
-  apart_of fs (λ i j d h w. apart (suc i) (suc j) d (omega arith) (omega arith))
+  apart_of fs (λ i j d h w. apart (suc i) (suc j) d (omega arith) (omega arith)),
 )
 
 -- the bytes of a listed file are there
@@ -169,8 +169,8 @@ module _ (s : State) (good : Good s) (op : Op) (up : IsUpload s.client.local s.c
   pub upload_legal : (m : Nodes) (n : Node) → m ≡ s.client.synced → n ≡ up.node → LegalPut m op.id.0 n
   upload_legal m n same is =
       subst (λ m. LegalPut m op.id.0 n) (sym same) (subst (λ n. LegalPut s.client.synced op.id.0 n) (sym is)
-        (legal_at_root s.client.synced op.id.0 up.node good.step.synced_form upload_id up.absent upload_bound.root
-          (λ y k at place. good.observed.form.places y op.id.0 k up.node (good.step.within y k at) up.here place)))
+      (legal_at_root s.client.synced op.id.0 up.node good.step.synced_form upload_id up.absent upload_bound.root
+      (λ y k at place. good.observed.form.places y op.id.0 k up.node (good.step.within y k at) up.here place)))
 
   pub upload_put : (synced : Nodes) → synced ≡ tree.insert s.client.synced op.id.0 up.node → (x : ℕ) (n : Node) → tree.get s.client.synced x ≡ Some n → tree.get synced x ≡ Some n
   upload_put synced is x n at = subst (λ m. tree.get m x ≡ Some n) (sym is) (elim (same_or_not x op.id.0) [
@@ -194,7 +194,7 @@ module _ (s : State) (good : Good s) (op : Op) (up : IsUpload s.client.local s.c
     within = λ x n at. elim (after_put s.client.synced op.id.0 up.node x n (subst (λ m. tree.get m x ≡ Some n) synced_is at)) [
       | inl (same, is) ↦ subst (λ x. tree.get s.client.local x ≡ Some n) (sym same) (up.here ∙ ap Some (sym is))
       | inr (other, old) ↦ good.step.within x n old
-    ]
+    ];
   }
 
 -- RESULTS
@@ -258,8 +258,8 @@ good_scanned s items local keys edits ids good same fits kept = record {
     served = good.step.served;
     pulled = good.step.pulled;
     cursor_is = good.step.cursor_is;
-    within = λ x n at. kept x n (good.step.within x n at)
-  }
+    within = λ x n at. kept x n (good.step.within x n at);
+  };
 }
 
 pub fresh_world : (w : World) → w.server ≡ [] → w.edits ≡ [] → w.ids ≡ record { next_id = 1; next_ver = 1 } → w.folder ≡ record { files = []; next_key = 1 }
@@ -271,8 +271,14 @@ fresh_world w server edits ids folder remote local synced others = λ i. record 
   ids = ids i;
   folder = folder i;
   client = record {
-    remote = remote i; local = local i; synced = synced i;
-    keys = (others i).keys; cursor = (others i).cursor; changes = (others i).changes; next_op = (others i).next_op;
-    held = None; flights = []
-  }
+    remote = remote i;
+    local = local i;
+    synced = synced i;
+    keys = (others i).keys;
+    cursor = (others i).cursor;
+    changes = (others i).changes;
+    next_op = (others i).next_op;
+    held = None;
+    flights = [];
+  };
 }

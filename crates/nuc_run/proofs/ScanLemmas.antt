@@ -152,8 +152,8 @@ module _ (items : List Item) (o : Observed) (apart : AreApart items) (fits : IsO
           | None ↦ λ f. subst (λ (q : Observed). tree.get q.local x ≡ Some n) (sym f) at
           | Some content ↦ λ f. subst (λ (q : Observed). tree.get q.local x ≡ Some n) (sym f)
               (get_put_other o.local o.ids.next_id (new_file item.name o.ids.next_ver) x
-                (λ same. not_both o.local o.ids.next_id n (next_absent items o.local o.keys o.edits o.ids apart fits item among unknown o.ids.next_ver)
-                  (subst (λ x. tree.get o.local x ≡ Some n) same at)) ∙ at)
+              (λ same. not_both o.local o.ids.next_id n (next_absent items o.local o.keys o.edits o.ids apart fits item among unknown o.ids.next_ver)
+              (subst (λ x. tree.get o.local x ≡ Some n) same at)) ∙ at)
         ] e
       ] refl is
 

@@ -98,7 +98,7 @@ pub began_as : {x y : List LogEntry} {a : State} (ts us : List Task) → ts ≡ 
 began_as {x} {y} {a} ts us same d = subst (λ ts. Began x y a ts) same d
 
 module _ (cs : List Command) (i : ℕ) (c : Command) (at : slice_get cs i ≡ Some c) {x y : List LogEntry} {a b : State}
-         (sofar : Did x y a (script_tasks cs) b (script_tasks (drop i cs))) where
+    (sofar : Did x y a (script_tasks cs) b (script_tasks (drop i cs))) where
   sofar_next : Did x y a (script_tasks cs) b (tasks_of c ++ script_tasks (drop (i + 1) cs))
   sofar_next = subst (λ us. Did x y a (script_tasks cs) b us) (ap script_tasks (drop_at cs i c at)) sofar
 
@@ -112,7 +112,7 @@ pub whole_log : (cs : List Command) (log : List LogEntry) (end : State) → Did 
 whole_log cs log end did = record {
   entries = did.entries;
   opened = did.added;
-  runs = record { lawful = did.runs.lawful; state = refl; asked = did.runs.asked }
+  runs = record { lawful = did.runs.lawful; state = refl; asked = did.runs.asked };
 }
 
 pub whole_state : (cs : List Command) (log : List LogEntry) (end : State) → Did (opening ∷ []) log fresh (script_tasks cs) end [] → end ≡ replay fresh log
@@ -123,7 +123,7 @@ early_log cs log began = record {
   entries = began.did.entries;
   left = began.left;
   opened = inr began.did.added;
-  runs = record { lawful = began.did.runs.lawful; state = refl; asked = began.did.runs.asked }
+  runs = record { lawful = began.did.runs.lawful; state = refl; asked = began.did.runs.asked };
 }
 
 -- not even the opening is in the log

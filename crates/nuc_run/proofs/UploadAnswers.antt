@@ -29,7 +29,7 @@ began_before s op x y rest same =
     subst (λ y. Began x y (flying s (as_planned op ∷ rest)) (steps_of 1 op)) (sym same) (began_at (did_nothing x (flying s (as_planned op ∷ rest)) (steps_of 1 op)))
 
 module _ (s : State) (good : Good s) (op : Op) (up : IsUpload s.client.local s.client.synced op) (x y : List LogEntry)
-         (read : HasRead s.folder (key_of op.id.0 s.client.keys) op.number x y) (rest : List Flight) where
+    (read : HasRead s.folder (key_of op.id.0 s.client.keys) op.number x y) (rest : List Flight) where
   abbrev pub rev : ℕ
   rev = length s.server + 1
 
@@ -37,7 +37,7 @@ module _ (s : State) (good : Good s) (op : Op) (up : IsUpload s.client.local s.c
   did_start z same = record {
     entries = start_entry op.number read.bytes ∷ [];
     added = same ∙ read.logged;
-    runs = start_runs (flying s (as_planned op ∷ rest)) op rest up.node read.bytes refl (upload_remote _ _ op up) (upload_synced _ _ op up) read.read good.step.cursor_is
+    runs = start_runs (flying s (as_planned op ∷ rest)) op rest up.node read.bytes refl (upload_remote _ _ op up) (upload_synced _ _ op up) read.read good.step.cursor_is;
   }
 
   taken_added : (z : List LogEntry) → z ≡ y ++ take_entry op.number rev ∷ [] → z ≡ x ++ start_entry op.number read.bytes ∷ take_entry op.number rev ∷ []
@@ -48,7 +48,7 @@ module _ (s : State) (good : Good s) (op : Op) (up : IsUpload s.client.local s.c
   did_take z added = record {
     entries = start_entry op.number read.bytes ∷ take_entry op.number rev ∷ [];
     added = taken_added z added;
-    runs = taken_runs (flying s (as_planned op ∷ rest)) op rest up.node read.bytes refl (upload_remote _ _ op up) (upload_synced _ _ op up) read.read good.step.cursor_is
+    runs = taken_runs (flying s (as_planned op ∷ rest)) op rest up.node read.bytes refl (upload_remote _ _ op up) (upload_synced _ _ op up) read.read good.step.cursor_is;
   }
 
   pub did_upload : (z u : List LogEntry) → z ≡ y ++ take_entry op.number rev ∷ [] → u ≡ z ++ done_entry op.number ∷ []
@@ -57,7 +57,7 @@ module _ (s : State) (good : Good s) (op : Op) (up : IsUpload s.client.local s.c
     entries = start_entry op.number read.bytes ∷ take_entry op.number rev ∷ done_entry op.number ∷ [];
     added = last ∙ ap (λ l. l ++ done_entry op.number ∷ []) (taken_added z added)
         ∙ append_assoc x (start_entry op.number read.bytes ∷ take_entry op.number rev ∷ []) (done_entry op.number ∷ []);
-    runs = upload_runs (flying s (as_planned op ∷ rest)) op rest up.node read.bytes refl (upload_remote _ _ op up) (upload_synced _ _ op up) read.read good.step.cursor_is
+    runs = upload_runs (flying s (as_planned op ∷ rest)) op rest up.node read.bytes refl (upload_remote _ _ op up) (upload_synced _ _ op up) read.read good.step.cursor_is;
   }
 
 -- what holds after an upload
@@ -68,17 +68,17 @@ good_uploaded s good op up flights rest = record {
   step = upload_keeps s good op up _ _ _ _ refl
       (put_keeps s.client.remote op.id.0 up.node good.step.remote_form (upload_legal s good op up s.client.remote up.node good.step.pulled refl) (upload_id s good op up) (upload_fits s good op up))
       (put_keeps s.client.synced op.id.0 up.node good.step.synced_form (upload_legal s good op up s.client.synced up.node refl refl) (upload_id s good op up) (upload_fits s good op up))
-      refl refl refl
+      refl refl refl;
 }
 
 -- the world in code after the server took an upload, and after it was done
 module _ (v t w : World) (op : Op) (n : Node) (server : t ≡ record v { server = v.server ++ next_entry v.server op.id.0 n ∷ [] })
-         (others : w ≡ record t { client = record t.client { remote = w.client.remote; synced = w.client.synced; cursor = t.client.cursor + 1 } })
-         (remote : w.client.remote.nodes ≡ tree.insert t.client.remote.nodes op.id.0 n)
-         (synced : w.client.synced.nodes ≡ tree.insert t.client.synced.nodes op.id.0 n) where
+    (others : w ≡ record t { client = record t.client { remote = w.client.remote; synced = w.client.synced; cursor = t.client.cursor + 1 } })
+    (remote : w.client.remote.nodes ≡ tree.insert t.client.remote.nodes op.id.0 n)
+    (synced : w.client.synced.nodes ≡ tree.insert t.client.synced.nodes op.id.0 n) where
   world_is : w ≡ record v {
     server = v.server ++ next_entry v.server op.id.0 n ∷ [];
-    client = record v.client { remote = w.client.remote; synced = w.client.synced; cursor = v.client.cursor + 1 }
+    client = record v.client { remote = w.client.remote; synced = w.client.synced; cursor = v.client.cursor + 1 };
   }
   world_is = others ∙ ap (λ (t : World). record t { client = record t.client { remote = w.client.remote; synced = w.client.synced; cursor = t.client.cursor + 1 } }) server
 

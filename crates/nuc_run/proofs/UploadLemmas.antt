@@ -66,7 +66,7 @@ has_started w op rest bytes = with_client w (record w.client { flights = record 
 abbrev pub is_taken : State → Op → List Flight → Node → State
 is_taken w op rest node = record w {
   server = w.server ++ next_entry w.server op.id.0 node ∷ [];
-  client = record w.client { flights = record { op = op; stage = taken (length w.server + 1) } ∷ rest }
+  client = record w.client { flights = record { op = op; stage = taken (length w.server + 1) } ∷ rest };
 }
 
 abbrev pub uploaded : State → Op → List Flight → Node → State
@@ -76,8 +76,8 @@ uploaded w op rest node = record w {
     remote = tree.insert w.client.remote op.id.0 node;
     cursor = w.client.cursor + 1;
     synced = tree.insert w.client.synced op.id.0 node;
-    flights = rest
-  }
+    flights = rest;
+  };
 }
 
 abbrev pub start_entry : ℕ → List ℕ → LogEntry
@@ -96,8 +96,8 @@ abbrev pub only_done : ℕ → List Task
 only_done n = once (event.Done 1 n) ∷ []
 
 module _ (w : State) (op : Op) (rest : List Flight) (node : Node) (bytes : List ℕ)
-         (flights : w.client.flights ≡ as_planned op ∷ rest) (remote : op.remote ≡ Put node) (synced : op.synced ≡ Put node)
-         (reads : bytes_of_key w.folder (key_of op.id.0 w.client.keys) ≡ Some bytes) (cursor : w.client.cursor ≡ length w.server) where
+    (flights : w.client.flights ≡ as_planned op ∷ rest) (remote : op.remote ≡ Put node) (synced : op.synced ≡ Put node)
+    (reads : bytes_of_key w.folder (key_of op.id.0 w.client.keys) ≡ Some bytes) (cursor : w.client.cursor ≡ length w.server) where
   at_start : Flight
   at_start = record { op = op; stage = started bytes }
 
@@ -119,7 +119,7 @@ module _ (w : State) (op : Op) (rest : List Flight) (node : Node) (bytes : List 
   after_its_take = ap (taken_by (has_started w op rest bytes) op.number) (first_flight op.number at_start rest refl)
       ∙ ap (take_at (has_started w op rest bytes) op.number op.id.0 (started bytes)) remote
       ∙ ap (λ fs. record (is_taken w op rest node) { client = record w.client { flights = fs } })
-          (first_staged op.number (taken (length w.server + 1)) at_start rest refl)
+      (first_staged op.number (taken (length w.server + 1)) at_start rest refl)
 
   its_news : news (is_taken w op rest node) (length w.server + 1) ≡ next_entry w.server op.id.0 node ∷ []
   its_news = ap (λ c. take ((length w.server + 1) - c) (drop c (w.server ++ next_entry w.server op.id.0 node ∷ []))) cursor
@@ -130,13 +130,13 @@ module _ (w : State) (op : Op) (rest : List Flight) (node : Node) (bytes : List 
   after_its_done = ap (done_by (is_taken w op rest node) op.number) (first_flight op.number at_take rest refl)
       ∙ ap (done_at (is_taken w op rest node) op.number op.id.0 (taken (length w.server + 1))) synced
       ∙ ap (λ es. with_client (is_taken w op rest node) (record w.client {
-          remote = tree_after w.client.remote es;
-          cursor = w.client.cursor + length es;
-          synced = tree.insert w.client.synced op.id.0 node;
-          flights = without op.number (at_take ∷ rest)
-        })) its_news
+        remote = tree_after w.client.remote es;
+        cursor = w.client.cursor + length es;
+        synced = tree.insert w.client.synced op.id.0 node;
+        flights = without op.number (at_take ∷ rest);
+      })) its_news
       ∙ ap (λ fs. record (uploaded w op rest node) { client = record (uploaded w op rest node).client { flights = fs } })
-          (first_without op.number at_take rest refl)
+      (first_without op.number at_take rest refl)
 
   pub start_runs : Runs w (steps_of 1 op) (start_entry op.number bytes ∷ []) (has_started w op rest bytes) (take_and_done op.number)
   start_runs = subst (λ s. Runs w (steps_of 1 op) (start_entry op.number bytes ∷ []) s (take_and_done op.number)) after_its_start
@@ -146,13 +146,13 @@ module _ (w : State) (op : Op) (rest : List Flight) (node : Node) (bytes : List 
   unfolding at_start
   take_runs = subst (λ s. Runs (has_started w op rest bytes) (take_and_done op.number) (take_entry op.number (length w.server + 1) ∷ []) s (only_done op.number)) after_its_take
       (runs_one (has_started w op rest bytes) (once (event.Take 1 op.number)) (only_done op.number) (reply.Took (take_reply.Accepted (length w.server + 1)))
-        (refl, (subst IsStarted (sym (first_flight op.number at_start rest refl)) (bytes, refl), refl)))
+      (refl, (subst IsStarted (sym (first_flight op.number at_start rest refl)) (bytes, refl), refl)))
 
   done_runs : Runs (is_taken w op rest node) (only_done op.number) (done_entry op.number ∷ []) (uploaded w op rest node) []
   unfolding at_take
   done_runs = subst (λ s. Runs (is_taken w op rest node) (only_done op.number) (done_entry op.number ∷ []) s []) after_its_done
       (runs_one (is_taken w op rest node) (once (event.Done 1 op.number)) [] (reply.Done done.Applied)
-        (refl, subst IsTaken (sym (first_flight op.number at_take rest refl)) (length w.server + 1, refl)))
+      (refl, subst IsTaken (sym (first_flight op.number at_take rest refl)) (length w.server + 1, refl)))
 
   pub taken_runs : Runs w (steps_of 1 op) (start_entry op.number bytes ∷ take_entry op.number (length w.server + 1) ∷ []) (is_taken w op rest node) (only_done op.number)
   taken_runs = runs_then start_runs take_runs

@@ -67,8 +67,8 @@ seen_in w = record {
     remote = w.client.remote;
     local = w.client.local;
     synced = w.client.synced;
-    folder = listing w.folder
-  }
+    folder = listing w.folder;
+  };
 }
 
 -- the whole output of a run that ended so before it was written

@@ -22,8 +22,8 @@ state_of w held flights = record {
     changes = w.client.changes;
     next_op = w.client.next_op;
     held = held;
-    flights = flights
-  }
+    flights = flights;
+  };
 }
 
 -- with nothing held and nothing in flight

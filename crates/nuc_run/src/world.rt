@@ -258,13 +258,7 @@ impl World {
     }
 
     /// The server takes an upload's commit.
-    fn take(
-        &mut self,
-        alloc: Global,
-        log: &mut Log,
-        op: &Op,
-        node: &Node,
-    ) -> Result<(), AllocError>
+    fn take(&mut self, alloc: Global, log: &mut Log, op: &Op, node: &Node) -> Result<(), AllocError>
         requires id { 0 < op.now.id.0 }
         requires fits { FitsKind node.now }
         requires legal { LegalPut (tree_of self.old.server) op.now.id.0 node.now }
@@ -281,13 +275,7 @@ impl World {
     }
 
     /// An upload is done: Remote and Synced have its node, and the cursor is behind its commit.
-    fn done(
-        &mut self,
-        alloc: Global,
-        log: &mut Log,
-        op: &Op,
-        node: &Node,
-    ) -> Result<(), AllocError>
+    fn done(&mut self, alloc: Global, log: &mut Log, op: &Op, node: &Node) -> Result<(), AllocError>
         requires id { 0 < op.now.id.0 }
         requires fits { FitsKind node.now }
         requires remote_form { WellFormed self.old.client.remote.nodes }

@@ -11,8 +11,8 @@ pub loop-i-preserved : goal.loop-i-preserved
 loop-i-preserved g c = elim c.match-nth.branch [
   | in-Some+in_ok-due+in_ok-add_due w ↦
       w.ops-is ∙ gathered_step _ _ _ _ _ _ _ _ c.loop-i.invariant (sym w.in-Some.ensures) (λ e. c.if-len-eq-BATCH.false (c.len.ensures ∙ e))
-        w.in_ok-add_due.ensures
-        (w.in_ok-due.ensures ∙ same_due _ w.get.ensures w.get-in-Some.ensures w.get-in-Some-2.ensures)
+      w.in_ok-add_due.ensures
+      (w.in_ok-due.ensures ∙ same_due _ w.get.ensures w.get-in-Some.ensures w.get-in-Some-2.ensures)
   | in_default w ↦ w.ops-is ∙ gathered_past _ _ _ _ _ c.loop-i.invariant (sym w.in_default.ensures)
 ]
 

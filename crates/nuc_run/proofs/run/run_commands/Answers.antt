@@ -5,14 +5,14 @@ use Rattle.nuc_run.proofs.run.run_commands.Goals as goal
 pub run_command-requires-clause-built : goal.run_command-requires-clause-built
 run_command-requires-clause-built c =
     script_built c.args.commands.now c.loop-command.command-index c.command-item.result c.requires.script
-      (command_read c.args.commands.now c.loop-command.command-index c.command-item.result c.loop-command-test.true c.command-item.is)
+    (command_read c.args.commands.now c.loop-command.command-index c.command-item.result c.loop-command-test.true c.command-item.is)
 
 pub returns-in_err-run_command-clause-early : goal.returns-in_err-run_command-clause-early
 returns-in_err-run_command-clause-early c =
     on_err c.from_residual-in_err-run_command.result (early_log _ _
-      (script_stopped c.args.commands.now c.loop-command.command-index c.command-item.result
-        (command_read c.args.commands.now c.loop-command.command-index c.command-item.result c.loop-command-test.true c.command-item.is)
-        c.loop-command.invariant.step c.in_err-run_command.ensures.err))
+    (script_stopped c.args.commands.now c.loop-command.command-index c.command-item.result
+    (command_read c.args.commands.now c.loop-command.command-index c.command-item.result c.loop-command-test.true c.command-item.is)
+    c.loop-command.invariant.step c.in_err-run_command.ensures.err))
 
 pub loop-command-preserved : goal.loop-command-preserved
 loop-command-preserved c = record {

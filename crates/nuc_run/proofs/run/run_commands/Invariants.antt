@@ -9,5 +9,5 @@ use Rattle.nuc_run.proofs.run.run_commands.Given as goal
 abbrev pub invariant-loop-command : goal.invariant-loop-command
 invariant-loop-command l = record {
   good : Good (at_rest l.world);
-  step : Did (opening ∷ []) l.log.entries fresh (script_tasks l.commands) (at_rest l.world) (script_tasks (drop l.command-index l.commands))
+  step : Did (opening ∷ []) l.log.entries fresh (script_tasks l.commands) (at_rest l.world) (script_tasks (drop l.command-index l.commands));
 }

@@ -6,5 +6,5 @@ use Rattle.nuc_folder.proofs.mem_folder.MemFolder.items.Given as goal
 abbrev pub invariant-loop-file : goal.invariant-loop-file
 invariant-loop-file l = record {
   lines : l.items ≡ map item_of (take l.file-index l.file-items);
-  names : All (λ item. IsName item.name) l.items
+  names : All (λ item. IsName item.name) l.items;
 }

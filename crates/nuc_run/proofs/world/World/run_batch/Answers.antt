@@ -13,7 +13,7 @@ pub returns-in_err-upload-clause-err : goal.returns-in_err-upload-clause-err
 returns-in_err-upload-clause-err c =
     let at = op_read c.args.ops.now c.loop-op.op-index c.op-item.result c.loop-op-test.true c.op-item.is in
     on_err c.from_residual.result
-      (batch_stopped c.args.ops.now c.loop-op.op-index c.op-item.result at c.args.self.now c.loop-op.self c.upload.new.self _ _ _ c.loop-op.invariant.step c.in_err-upload.ensures.err)
+    (batch_stopped c.args.ops.now c.loop-op.op-index c.op-item.result at c.args.self.now c.loop-op.self c.upload.new.self _ _ _ c.loop-op.invariant.step c.in_err-upload.ensures.err)
 
 pub loop-op-preserved : goal.loop-op-preserved
 loop-op-preserved c =

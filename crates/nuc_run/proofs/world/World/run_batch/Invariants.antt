@@ -15,5 +15,5 @@ invariant-loop-op l = record {
   kept : AreKept l.initial.self.client.synced.nodes l.self.client.synced.nodes;
   them : AllHere l.self.client.synced.nodes (take l.op-index l.ops);
   step : Did l.initial.log.entries l.log.entries (state_of l.initial.self None (map as_planned l.ops)) (flat_map (steps_of 1) l.ops)
-    (state_of l.self None (map as_planned (drop l.op-index l.ops))) (flat_map (steps_of 1) (drop l.op-index l.ops))
+      (state_of l.self None (map as_planned (drop l.op-index l.ops))) (flat_map (steps_of 1) (drop l.op-index l.ops));
 }

@@ -23,7 +23,7 @@ returns-then-is_empty-clause-step c =
 pub run_batch-requires-clause-uploads : goal.run_batch-requires-clause-uploads
 run_batch-requires-clause-uploads c =
     planned_uploads _ _ _ _ _ _ _ _ c.loop-ops.invariant.good.step.pulled c.in_ok-ops.ensures.ops c.as_slice.ensures
-      (ap (λ (t : TreeState). t.nodes) c.in_ok-ops.ensures.local) (ap (λ (t : TreeState). t.nodes) c.in_ok-ops.ensures.synced)
+    (ap (λ (t : TreeState). t.nodes) c.in_ok-ops.ensures.local) (ap (λ (t : TreeState). t.nodes) c.in_ok-ops.ensures.synced)
 
 some : {b : Bool} {ops os : List Op} → (ops ≡ [] → b ≡ true) → b ≡ false → os ≡ ops → os ≢ []
 some empty false_is handed none = let clash : true ≡ false = sym (empty (sym handed ∙ none)) ∙ false_is in cc
@@ -31,14 +31,14 @@ some empty false_is handed none = let clash : true ≡ false = sym (empty (sym h
 pub returns-in_err-run_batch-clause-err : goal.returns-in_err-run_batch-clause-err
 returns-in_err-run_batch-clause-err c =
     on_err c.from_residual-in_err-run_batch.result
-      (plans_stopped c.args.self.now c.loop-ops.self c.plan.new.self c.as_slice.result.now _ _ _ (some c.is_empty.ensures.1 c.if-is_empty.false c.as_slice.ensures)
-        c.loop-ops.invariant.step (plan_of c.loop-ops.self c.plan.new.self _ _ c.as_slice.ensures c.in_ok-ops.ensures.step) c.in_err-run_batch.ensures.err)
+    (plans_stopped c.args.self.now c.loop-ops.self c.plan.new.self c.as_slice.result.now _ _ _ (some c.is_empty.ensures.1 c.if-is_empty.false c.as_slice.ensures)
+    c.loop-ops.invariant.step (plan_of c.loop-ops.self c.plan.new.self _ _ c.as_slice.ensures c.in_ok-ops.ensures.step) c.in_err-run_batch.ensures.err)
 
 pub loop-ops-smaller : goal.loop-ops-smaller
 loop-ops-smaller c =
     plans_lessen _ _ _ _ _ _ _ _ c.as_slice.result.now c.loop-ops.invariant.good.step.pulled (ap (λ (t : TreeState). t.nodes) c.in_ok-ops.ensures.synced)
-      c.in_ok-run_batch.ensures.synced c.as_slice.ensures c.in_ok-ops.ensures.ops (some c.is_empty.ensures.1 c.if-is_empty.false c.as_slice.ensures)
-      (ap (λ (t : TreeState). t.nodes) (c.in_ok-run_batch.ensures.local ∙ c.in_ok-ops.ensures.local))
+    c.in_ok-run_batch.ensures.synced c.as_slice.ensures c.in_ok-ops.ensures.ops (some c.is_empty.ensures.1 c.if-is_empty.false c.as_slice.ensures)
+    (ap (λ (t : TreeState). t.nodes) (c.in_ok-run_batch.ensures.local ∙ c.in_ok-ops.ensures.local))
 
 pub loop-ops-preserved : goal.loop-ops-preserved
 loop-ops-preserved c = record {

@@ -9,7 +9,7 @@ use Rattle.nuc_run.proofs.world.World.run_plans.Given as goal
 abbrev pub invariant-loop-ops : goal.invariant-loop-ops
 invariant-loop-ops l = record {
   good : Good (at_rest l.self);
-  step : Did l.initial.log.entries l.log.entries (at_rest l.initial.self) (plans 1 ∷ []) (at_rest l.self) (plans 1 ∷ [])
+  step : Did l.initial.log.entries l.log.entries (at_rest l.initial.self) (plans 1 ∷ []) (at_rest l.self) (plans 1 ∷ []);
 }
 
 abbrev pub decreases-loop-ops : goal.decreases-loop-ops

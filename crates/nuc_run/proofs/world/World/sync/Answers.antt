@@ -16,15 +16,15 @@ returns-in_err-pull-clause-err c =
 pub returns-in_err-run_plans-clause-err : goal.returns-in_err-run_plans-clause-err
 returns-in_err-run_plans-clause-err c =
     on_err c.from_residual-in_err-run_plans.result
-      (sync_unplanned (sync_pulled (sync_scanned (sync_listed c.in_ok-items.ensures.step) c.in_ok-scan.ensures.step) c.in_ok-pull.ensures.step) c.in_err-run_plans.ensures.err)
+    (sync_unplanned (sync_pulled (sync_scanned (sync_listed c.in_ok-items.ensures.step) c.in_ok-scan.ensures.step) c.in_ok-pull.ensures.step) c.in_err-run_plans.ensures.err)
 
 pub returns-in_err-mark-clause-err : goal.returns-in_err-mark-clause-err
 returns-in_err-mark-clause-err c =
     on_err c.from_residual-in_err-mark.result
-      (stopped_there (sync_planned (sync_pulled (sync_scanned (sync_listed c.in_ok-items.ensures.step) c.in_ok-scan.ensures.step) c.in_ok-pull.ensures.step) c.in_ok-run_plans.ensures.step)
-        c.in_err-mark.ensures.err)
+    (stopped_there (sync_planned (sync_pulled (sync_scanned (sync_listed c.in_ok-items.ensures.step) c.in_ok-scan.ensures.step) c.in_ok-pull.ensures.step) c.in_ok-run_plans.ensures.step)
+    c.in_err-mark.ensures.err)
 
 pub returns-clause-step : goal.returns-clause-step
 returns-clause-step c =
     sync_marked (sync_planned (sync_pulled (sync_scanned (sync_listed c.in_ok-items.ensures.step) c.in_ok-scan.ensures.step) c.in_ok-pull.ensures.step) c.in_ok-run_plans.ensures.step)
-      c.in_ok-mark.ensures.step
+    c.in_ok-mark.ensures.step

@@ -16,12 +16,12 @@ take-requires-clause-legal c =
 pub done-requires-clause-remote : goal.done-requires-clause-remote
 done-requires-clause-remote c =
     upload_legal _ c.requires.good _ c.requires.upload _ _ (ap (λ (w : World). w.client.remote.nodes) c.in_ok-take.ensures.server ∙ c.requires.good.step.pulled)
-      (upload_node _ _ _ c.requires.upload _ c.in-Put.is)
+    (upload_node _ _ _ c.requires.upload _ c.in-Put.is)
 
 pub done-requires-clause-synced : goal.done-requires-clause-synced
 done-requires-clause-synced c =
     upload_legal _ c.requires.good _ c.requires.upload _ _ (ap (λ (w : World). w.client.synced.nodes) c.in_ok-take.ensures.server)
-      (upload_node _ _ _ c.requires.upload _ c.in-Put.is)
+    (upload_node _ _ _ c.requires.upload _ c.in-Put.is)
 
 pub returns-in_err-start-clause-err : goal.returns-in_err-start-clause-err
 returns-in_err-start-clause-err c =
@@ -47,11 +47,11 @@ returns-clause-local c = local_is _ _ _ c.args.op.now _ c.in_ok-take.ensures.ser
 pub returns-clause-synced : goal.returns-clause-synced
 returns-clause-synced c =
     subst (HasPut _ _ c.args.op.now.id.0) (sym c.in-Put.is)
-      (synced_is _ _ _ c.args.op.now _ c.in_ok-take.ensures.server c.in_ok-done.ensures.others c.in_ok-done.ensures.remote c.in_ok-done.ensures.synced)
+    (synced_is _ _ _ c.args.op.now _ c.in_ok-take.ensures.server c.in_ok-done.ensures.others c.in_ok-done.ensures.remote c.in_ok-done.ensures.synced)
 
 pub returns-clause-step : goal.returns-clause-step
 returns-clause-step c = λ rest.
     let is = upload_node _ _ _ c.requires.upload _ c.in-Put.is in
     let state = state_is _ _ _ c.args.op.now _ c.in_ok-take.ensures.server c.in_ok-done.ensures.others c.in_ok-done.ensures.remote c.in_ok-done.ensures.synced (as_planned c.args.op.now ∷ rest) rest in
     did_end (did_upload _ c.requires.good _ c.requires.upload _ _ c.in_ok-start.ensures.step rest _ _ c.in_ok-take.ensures.step c.in_ok-done.ensures.step)
-      (sym (state ∙ ap (λ n. uploaded (flying (at_rest c.args.self.now) (as_planned c.args.op.now ∷ rest)) c.args.op.now rest n) is))
+    (sym (state ∙ ap (λ n. uploaded (flying (at_rest c.args.self.now) (as_planned c.args.op.now ∷ rest)) c.args.op.now rest n) is))
