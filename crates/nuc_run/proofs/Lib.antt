@@ -9,3 +9,4 @@ pub mod OutcomeLemmas
 pub mod UploadAnswers
 pub mod BatchRun
 pub mod SyncLemmas
+pub mod OneOutcome

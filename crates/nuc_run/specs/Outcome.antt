@@ -1,5 +1,5 @@
 -- What the top call answers, writes and leaves.
-use Rattle.std.specs.Prelude.{◌≡◌, ◌⊎◌, ℕ, List, [], ◌∷◌, length, map, take, codes, Option}
+use Rattle.std.specs.Prelude.{◌≡◌, ◌⊎◌, ℕ, List, [], ◌∷◌, length, map, take, codes, Option, Some}
 use Rattle.std.specs.Rc.{rc_str_bytes}
 use Rattle.std.specs.declared.alloc.Global.{Global}
 use Rattle.std.specs.declared.rc.RcStr.{RcStr}
@@ -91,3 +91,18 @@ abbrev pub EndsAs : Status → Status → Type 0
 EndsAs before status.WriteFault = Unit {0}
 EndsAs before status.Memory = Unit {0}
 EndsAs before ended = ended ≡ before
+
+-- a status that no fault of reading and no want of memory stands behind
+abbrev pub IsDecided : Status → Type 0
+IsDecided status.Ok = Unit {0}
+IsDecided status.Usage = Unit {0}
+IsDecided (status.ScriptFault line kind) = Unit {0}
+IsDecided status.ReadFault = ⊥
+IsDecided status.WriteFault = ⊥
+IsDecided status.Memory = ⊥
+
+-- the words, the bytes that were left and those that are left decide the status and the log
+abbrev pub OneOutcome : Type 0
+OneOutcome = (words : List (RcStr Global)) (left rest : List ℕ) (a b : Status) (x y : List LogEntry) → IsDecided a → IsDecided b
+    → JudgesWords words a → JudgesWords words b → RunsScript (Some left) a x (Some rest) → RunsScript (Some left) b y (Some rest)
+    → (a ≡ b) × (x ≡ y)

@@ -10,4 +10,4 @@ mod scan;
 mod server;
 mod world;
 
-pub use run::run_script;
+pub use run::{has_one_outcome, run_script};

@@ -2,7 +2,7 @@ ghost use Rattle.std.specs.Prelude.{◌≡◌, ◌≢◌, ◌⊎◌, [], IfOk, M
 ghost use Rattle.nuc_io.specs.Causes.{HasCause};
 ghost use Rattle.nuc_report.specs.Output.{output_of, refusal_text};
 ghost use Rattle.nuc_run.specs.Good.{Good};
-ghost use Rattle.nuc_run.specs.Outcome.{AreRun, EndsAs, JudgesWords, RunsScript, WritesOutput, seen_in, whole_output};
+ghost use Rattle.nuc_run.specs.Outcome.{AreRun, EndsAs, JudgesWords, OneOutcome, RunsScript, WritesOutput, seen_in, whole_output};
 ghost use Rattle.nuc_run.specs.Runs.{Began, Did, IsEarlyLog, IsWholeLog, replay};
 ghost use Rattle.nuc_run.specs.State.{fresh};
 ghost use Rattle.nuc_run.specs.Tasks.{tasks_of};
@@ -186,6 +186,12 @@ fn text_of(alloc: Global, world: &World, log: &Log) -> Result<String, AllocError
     };
     output_text(alloc, log, &view)
 }
+
+/// Where no read failed and memory sufficed, the words and the bytes decide the status and the log, and by these the
+/// output.
+pub fn has_one_outcome()
+    ensures { OneOutcome }
+{}
 
 /// Writes a text, and says how the run ends by that.
 fn send<K: Sink>(output: &mut K, text: &str, before: Status) -> Status

@@ -1,0 +1,118 @@
+-- A script has one whole log, and a run one outcome.
+use Rattle.std.proofs.Common.{◌≡◌, ℕ, false, List, [], ◌∷◌, ◌++◌, Option, None, Some, refl, sym, ◌∙◌, ap, subst}
+use Rattle.std.specs.Option.{IsSomeAnd}
+use Rattle.nuc_script.specs.declared.command.Command.{Command}
+use Rattle.nuc_script.specs.declared.script_read.ScriptRead.{ScriptRead}
+use Rattle.nuc_script.specs.declared.script_read.ScriptRead.TheVariants as read
+use Rattle.nuc_script.proofs.OneReading.{one_reading}
+use Rattle.nuc_step.specs.declared.event.Event.{Event}
+use Rattle.nuc_step.specs.declared.event.Event.TheVariants as event
+use Rattle.nuc_step.specs.declared.log.LogEntry.{LogEntry}
+use Rattle.nuc_step.specs.declared.log.LogEntry.TheVariants as entry
+use Rattle.nuc_step.specs.declared.reply.Reply.{Reply}
+use Rattle.nuc_step.specs.declared.reply.Reply.TheVariants as reply
+use Rattle.nuc_step.specs.declared.reply.ScanReply.TheVariants as scan
+use Rattle.nuc_step.specs.declared.reply.PlanReply.TheVariants as plan
+use Rattle.nuc_step.specs.declared.reply.StartReply.TheVariants as start
+use Rattle.nuc_step.specs.declared.reply.TakeReply.TheVariants as take_reply
+use Rattle.nuc_step.specs.declared.reply.DoneReply.TheVariants as done
+use Rattle.nuc_step.specs.declared.reply.MarkReply.TheVariants as mark
+use Rattle.nuc_report.specs.declared.status.Status.{Status}
+use Rattle.nuc_report.specs.declared.status.Status.TheVariants as status
+use Rattle.nuc_run.specs.Outcome.{OneOutcome, RanAll}
+use Rattle.nuc_run.specs.Runs.{IsLawful, IsWholeLog, replayed}
+use Rattle.nuc_run.specs.Scan.{observed}
+use Rattle.nuc_run.specs.State.{State, Listing, fresh}
+use Rattle.nuc_run.specs.Step.{Says, before_listing, found}
+use Rattle.nuc_run.specs.Tasks.{Task, Follows, event_of, more, script_tasks}
+
+scanned_one : (w : State) (held : Option Listing) (j k : ℕ) → IsSomeAnd held (λ h. j ≡ found w (observed (before_listing w) h.items))
+    → IsSomeAnd held (λ h. k ≡ found w (observed (before_listing w) h.items)) → j ≡ k
+scanned_one w None j k a b = absurd a
+scanned_one w (Some h) j k a b = a ∙ sym b
+
+-- an event has one reply
+says_one : (w : State) (e : Event) (r s : Reply) → Says w e r → Says w e s → r ≡ s
+says_one w (event.User c e) (reply.User x) (reply.User y) a b = ap reply.User (a ∙ sym b)
+says_one w (event.User c e) (reply.User x) _ a b = absurd b
+says_one w (event.User c e) _ s a b = absurd a
+says_one w (event.List c) (reply.Listed m x) (reply.Listed n y) a b = ap (λ n. reply.Listed n x) (a.0 ∙ sym b.0) ∙ ap (reply.Listed n) (a.1 ∙ sym b.1)
+says_one w (event.List c) (reply.Listed m x) _ a b = absurd b
+says_one w (event.List c) _ s a b = absurd a
+says_one w (event.Scan c) (reply.Scan (scan.Changed j)) (reply.Scan (scan.Changed k)) a b = ap (λ k. reply.Scan (scan.Changed k)) (scanned_one w w.client.held j k a b)
+says_one w (event.Scan c) (reply.Scan (scan.Changed j)) _ a b = absurd b
+says_one w (event.Scan c) _ s a b = absurd a
+says_one w (event.Pull c) (reply.Pulled m x) (reply.Pulled n y) a b = ap (λ n. reply.Pulled n x) (a.0 ∙ sym b.0) ∙ ap (reply.Pulled n) (a.1 ∙ sym b.1)
+says_one w (event.Pull c) (reply.Pulled m x) _ a b = absurd b
+says_one w (event.Pull c) _ s a b = absurd a
+says_one w (event.Plan c) (reply.Plan plan.Empty) (reply.Plan plan.Empty) a b = refl
+says_one w (event.Plan c) (reply.Plan plan.Empty) (reply.Plan (plan.Batch ops)) a b = absurd (b.2 (b.1 ∙ a.1))
+says_one w (event.Plan c) (reply.Plan (plan.Batch ops)) (reply.Plan plan.Empty) a b = absurd (a.2 (a.1 ∙ b.1))
+says_one w (event.Plan c) (reply.Plan (plan.Batch ops)) (reply.Plan (plan.Batch others)) a b = ap (λ ops. reply.Plan (plan.Batch ops)) (a.1 ∙ sym b.1)
+says_one w (event.Plan c) (reply.Plan plan.Empty) _ a b = absurd b
+says_one w (event.Plan c) (reply.Plan (plan.Batch ops)) _ a b = absurd b
+says_one w (event.Plan c) _ s a b = absurd a
+says_one w (event.Start c n) (reply.Started (start.Ok x)) (reply.Started (start.Ok y)) a b = ap (λ x. reply.Started (start.Ok x)) (sym a.0 ∙ b.0)
+says_one w (event.Start c n) (reply.Started (start.Ok x)) _ a b = absurd b
+says_one w (event.Start c n) _ s a b = absurd a
+says_one w (event.Take c n) (reply.Took (take_reply.Accepted x)) (reply.Took (take_reply.Accepted y)) a b = ap (λ x. reply.Took (take_reply.Accepted x)) (a.1 ∙ sym b.1)
+says_one w (event.Take c n) (reply.Took (take_reply.Accepted x)) _ a b = absurd b
+says_one w (event.Take c n) _ s a b = absurd a
+says_one w (event.Done c n) (reply.Done done.Applied) (reply.Done done.Applied) a b = refl
+says_one w (event.Done c n) (reply.Done done.Applied) _ a b = absurd b
+says_one w (event.Done c n) _ s a b = absurd a
+says_one w (event.Mark c) (reply.Marked mark.Quiet) (reply.Marked mark.Quiet) a b = refl
+says_one w (event.Mark c) (reply.Marked mark.Quiet) _ a b = absurd b
+says_one w (event.Mark c) _ s a b = absurd a
+
+-- the same tasks from the same state bring the same entries
+entries_one : (w : State) (ts : List Task) (es fs : List LogEntry) → IsLawful w es → IsLawful w fs → Follows ts es [] → Follows ts fs [] → es ≡ fs
+entries_one w ts [] [] a b p q = refl
+entries_one w [] [] (f ∷ fs) a b p q = absurd q
+entries_one w (t ∷ ts) [] (f ∷ fs) a b p q = cc
+entries_one w [] (e ∷ es) fs a b p q = absurd p
+entries_one w (t ∷ ts) (e ∷ es) [] a b p q = cc
+entries_one w (t ∷ ts) (entry.Opened n k ∷ es) (f ∷ fs) a b p q = absurd p
+entries_one w (t ∷ ts) (entry.Stepped e r ∷ es) (entry.Opened n k ∷ fs) a b p q = absurd q
+entries_one w (t ∷ ts) (entry.Stepped e r ∷ es) (entry.Stepped f s ∷ fs) a b p q =
+    let same_event : f ≡ e = q.0 ∙ sym p.0 in
+    let b' : IsLawful w (entry.Stepped e s ∷ fs) = subst (λ f. IsLawful w (entry.Stepped f s ∷ fs)) same_event b in
+    let same_reply : s ≡ r = says_one w e s r b'.0.1 a.0.1 in
+    let q' : Follows (more t r ++ ts) fs [] = subst (λ s. Follows (more t s ++ ts) fs []) same_reply q.1 in
+    let rest : es ≡ fs = entries_one (replayed w (entry.Stepped e r)) (more t r ++ ts) es fs a.1 b'.1 p.1 q' in
+    ap (λ es. entry.Stepped e r ∷ es) rest ∙ ap (λ s. entry.Stepped e s ∷ fs) (sym same_reply) ∙ ap (λ e. entry.Stepped e s ∷ fs) (sym same_event)
+
+whole_one : (cs : List Command) (x y : List LogEntry) → IsWholeLog cs x → IsWholeLog cs y → x ≡ y
+whole_one cs x y a b = a.opened
+    ∙ ap (λ es. entry.Opened 1 false ∷ es) (entries_one fresh (script_tasks cs) a.entries b.entries a.runs.lawful b.runs.lawful a.runs.asked b.runs.asked)
+    ∙ sym b.opened
+
+ran_one : (left rest : List ℕ) (x y : List LogEntry) → RanAll (Some left) (Some rest) x → RanAll (Some left) (Some rest) y → x ≡ y
+ran_one left rest x y a b =
+    let one : read.Commands a.commands ≡ read.Commands b.commands =
+        one_reading left rest (read.Commands a.commands) (read.Commands b.commands) tt tt (a.script, a.took, a.end) (b.script, b.took, b.end) in
+    let same : a.commands ≡ b.commands = cc in
+    whole_one b.commands x y (subst (λ cs. IsWholeLog cs x) same a.whole) b.whole
+
+pub one_outcome : OneOutcome
+one_outcome words left rest status.Ok status.Ok x y c d p q a b = (refl, ran_one left rest x y a b)
+one_outcome words left rest status.Ok status.Usage x y c d p q a b = absurd (q p)
+one_outcome words left rest status.Ok (status.ScriptFault l k) x y c d p q a b =
+    let one : read.Commands a.commands ≡ read.Fault l k = one_reading left rest (read.Commands a.commands) (read.Fault l k) tt tt (a.script, a.took, a.end) b.0 in cc
+one_outcome words left rest status.Usage status.Ok x y c d p q a b = absurd (p q)
+one_outcome words left rest status.Usage status.Usage x y c d p q a b = (refl, a.1 ∙ sym b.1)
+one_outcome words left rest status.Usage (status.ScriptFault l k) x y c d p q a b = absurd (p q)
+one_outcome words left rest (status.ScriptFault l k) status.Ok x y c d p q a b =
+    let one : read.Commands b.commands ≡ read.Fault l k = one_reading left rest (read.Commands b.commands) (read.Fault l k) tt tt (b.script, b.took, b.end) a.0 in cc
+one_outcome words left rest (status.ScriptFault l k) status.Usage x y c d p q a b = absurd (q p)
+one_outcome words left rest (status.ScriptFault l k) (status.ScriptFault m j) x y c d p q a b =
+    let one : read.Fault l k ≡ read.Fault m j = one_reading left rest (read.Fault l k) (read.Fault m j) tt tt a.0 b.0 in
+    let line : l ≡ m = cc in
+    let kind : k ≡ j = cc in
+    (ap (λ l. status.ScriptFault l k) line ∙ ap (status.ScriptFault m) kind, a.1 ∙ sym b.1)
+one_outcome words left rest status.ReadFault _ x y c d p q a b = absurd c
+one_outcome words left rest status.WriteFault _ x y c d p q a b = absurd c
+one_outcome words left rest status.Memory _ x y c d p q a b = absurd c
+one_outcome words left rest _ status.ReadFault x y c d p q a b = absurd d
+one_outcome words left rest _ status.WriteFault x y c d p q a b = absurd d
+one_outcome words left rest _ status.Memory x y c d p q a b = absurd d
