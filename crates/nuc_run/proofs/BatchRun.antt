@@ -1,5 +1,5 @@
 -- The operations of a batch carried out one after the other.
-use Rattle.std.proofs.Common.{◌≡◌, ◌≢◌, ◌<◌, ◌+◌, ℕ, zero, suc, List, [], ◌∷◌, ◌++◌, length, map, take, drop, slice_index_or, slice_get, Option, None, Some, refl, sym, ◌∙◌, ap, subst, arith}
+use Rattle.std.proofs.Common.{◌≡◌, ◌≢◌, ◌<◌, ◌+◌, ℕ, zero, suc, List, [], ◌∷◌, ◌++◌, length, map, take, drop, slice_index_or, slice_get, None, Some, refl, sym, ◌∙◌, ap, subst, arith}
 use Rattle.std.proofs.lemmas.Option.{slice_get_read}
 use Rattle.std.specs.List.{flat_map}
 use Rattle.std.specs.FinMap as tree
@@ -7,10 +7,9 @@ use Rattle.nuc_base.specs.Trees.{Nodes}
 use Rattle.nuc_base.specs.declared.node.Node.{Node}
 use Rattle.nuc_base.proofs.Maps.{get_put_same}
 use Rattle.nuc_class.specs.declared.op.Op.{Op}
-use Rattle.nuc_class.specs.declared.op.Change.TheVariants.{Put}
 use Rattle.nuc_step.specs.declared.log.LogEntry.{LogEntry}
-use Rattle.nuc_run.specs.Good.{Good, IsUpload, AllUploads, AllHere, IsHere, AreKept, HasThem, IsPut, HasPut}
-use Rattle.nuc_run.specs.Good.AllUploads.{none, next}
+use Rattle.nuc_run.specs.Good.{IsUpload, AllUploads, AllHere, IsHere, AreKept, HasThem, IsPut, HasPut}
+use Rattle.nuc_run.specs.Good.AllUploads.{next}
 use Rattle.nuc_run.specs.Runs.{Did, Began}
 use Rattle.nuc_run.specs.State.{State, Flight}
 use Rattle.nuc_run.specs.Step.{as_planned}
@@ -18,7 +17,7 @@ use Rattle.nuc_run.specs.Plan.{batch}
 use Rattle.nuc_run.specs.Tasks.{Task, after_plan, plans, steps_of}
 use Rattle.nuc_run.specs.World.{at_rest, state_of}
 use Rattle.nuc_run.specs.declared.world.World.{World}
-use Rattle.nuc_run.proofs.GoodLemmas.{upload_put, upload_synced}
+use Rattle.nuc_run.proofs.GoodLemmas.{upload_synced}
 use Rattle.nuc_run.proofs.RunLemmas.{did_then, did_more, began_then, began_more}
 use Rattle.nuc_run.proofs.PlanLemmas.{batch_lessens, batch_uploads, left_to_do}
 

@@ -1,23 +1,20 @@
 -- What the steps of a script keep.
-use Rattle.std.proofs.Common.{◌≡◌, ◌≢◌, ◌⊎◌, ◌<◌, ◌≤◌, ◌+◌, ◌==◌, ℕ, zero, suc, Bool, true, false, cond, List, [], ◌∷◌, ◌++◌, length, map, take, drop, find, insert, slice_index_or, Option, None, Some, Result, Ok, Err, OnOk, OnErr, refl, sym, ◌∙◌, ap, subst, inl, inr, arith, length-append}
+use Rattle.std.proofs.Common.{◌≡◌, ◌≢◌, ◌<◌, ◌+◌, ◌==◌, ℕ, zero, suc, true, false, cond, List, [], ◌∷◌, ◌++◌, length, map, find, insert, slice_index_or, Option, None, Some, Result, Ok, Err, OnOk, OnErr, refl, sym, ◌∙◌, ap, subst, inl, inr, arith, length-append}
 use Rattle.std.proofs.lemmas.Bool.Decides.{eqb_tells}
 use Rattle.std.specs.List.{AllPairs}
 use Rattle.std.specs.Ordering.{nat_cmp}
-use Rattle.std.specs.Option.{option_map}
 use Rattle.std.specs.FinMap as tree
 use Rattle.std.specs.FinMap.{get-empty}
 use Rattle.nuc_base.specs.Legal.{LegalPut}
 use Rattle.nuc_base.specs.Kinds.{FitsKind}
-use Rattle.nuc_base.specs.SamePlace.{SameName, SamePlace}
+use Rattle.nuc_base.specs.SamePlace.{SameName}
 use Rattle.nuc_base.specs.Trees.{Nodes, WellFormed}
 use Rattle.nuc_base.specs.declared.node.Counters.{Counters}
 use Rattle.nuc_base.specs.declared.node.Node.{Node}
-use Rattle.nuc_base.proofs.Forms.{empty_form, put_keeps}
-use Rattle.nuc_base.proofs.Maps.{after_put, get_put_same, get_put_other, same_or_not, not_both}
-use Rattle.nuc_edits.specs.Edits.{IsNext}
+use Rattle.nuc_base.proofs.Forms.{empty_form}
+use Rattle.nuc_base.proofs.Maps.{after_put, get_put_other, same_or_not, not_both}
 use Rattle.nuc_edits.specs.declared.edit.Edit.{Edit}
 use Rattle.nuc_folder.specs.Folder.{FileData, FolderData}
-use Rattle.nuc_folder.specs.Formed.{IsFormed}
 use Rattle.nuc_folder.specs.Listing.{item_of, has_key}
 use Rattle.nuc_folder.specs.Write.{refilled, written, written_at, written_to, edited, Answers}
 use Rattle.nuc_folder.specs.declared.item.Item.{Item}

@@ -1,9 +1,8 @@
 -- What is legal for a file at the root.
-use Rattle.std.proofs.Common.{◌≡◌, ◌≢◌, ◌⊎◌, ◌<◌, ℕ, Option, None, Some, refl, sym, ◌∙◌, ap, subst, inl, inr, arith}
+use Rattle.std.proofs.Common.{◌≡◌, ◌<◌, ℕ, None, Some, refl, subst, inl, arith}
 use Rattle.std.specs.FinMap as tree
 use Rattle.nuc_base.specs.Faults.{PutFaulty}
 use Rattle.nuc_base.specs.Legal.{LegalPut, IsFree}
-use Rattle.nuc_base.specs.SamePlace.{SamePlace}
 use Rattle.nuc_base.specs.Trees.{Nodes, IsUnder, WellFormed}
 use Rattle.nuc_base.specs.Trees.Under.{here, up}
 use Rattle.nuc_base.specs.declared.node.Node.{Node}

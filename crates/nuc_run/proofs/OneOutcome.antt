@@ -2,7 +2,6 @@
 use Rattle.std.proofs.Common.{◌≡◌, ℕ, false, List, [], ◌∷◌, ◌++◌, Option, None, Some, refl, sym, ◌∙◌, ap, subst}
 use Rattle.std.specs.Option.{IsSomeAnd}
 use Rattle.nuc_script.specs.declared.command.Command.{Command}
-use Rattle.nuc_script.specs.declared.script_read.ScriptRead.{ScriptRead}
 use Rattle.nuc_script.specs.declared.script_read.ScriptRead.TheVariants as read
 use Rattle.nuc_script.proofs.OneReading.{one_reading}
 use Rattle.nuc_step.specs.declared.event.Event.{Event}
@@ -17,14 +16,13 @@ use Rattle.nuc_step.specs.declared.reply.StartReply.TheVariants as start
 use Rattle.nuc_step.specs.declared.reply.TakeReply.TheVariants as take_reply
 use Rattle.nuc_step.specs.declared.reply.DoneReply.TheVariants as done
 use Rattle.nuc_step.specs.declared.reply.MarkReply.TheVariants as mark
-use Rattle.nuc_report.specs.declared.status.Status.{Status}
 use Rattle.nuc_report.specs.declared.status.Status.TheVariants as status
 use Rattle.nuc_run.specs.Outcome.{OneOutcome, RanAll}
 use Rattle.nuc_run.specs.Runs.{IsLawful, IsWholeLog, replayed}
 use Rattle.nuc_run.specs.Scan.{observed}
 use Rattle.nuc_run.specs.State.{State, Listing, fresh}
 use Rattle.nuc_run.specs.Step.{Says, before_listing, found}
-use Rattle.nuc_run.specs.Tasks.{Task, Follows, event_of, more, script_tasks}
+use Rattle.nuc_run.specs.Tasks.{Task, Follows, more, script_tasks}
 
 scanned_one : (w : State) (held : Option Listing) (j k : ℕ) → IsSomeAnd held (λ h. j ≡ found w (observed (before_listing w) h.items))
     → IsSomeAnd held (λ h. k ≡ found w (observed (before_listing w) h.items)) → j ≡ k
@@ -90,7 +88,7 @@ whole_one cs x y a b = a.opened
 ran_one : (left rest : List ℕ) (x y : List LogEntry) → RanAll (Some left) (Some rest) x → RanAll (Some left) (Some rest) y → x ≡ y
 ran_one left rest x y a b =
     let one : read.Commands a.commands ≡ read.Commands b.commands =
-        one_reading left rest (read.Commands a.commands) (read.Commands b.commands) tt tt (a.script, a.took, a.end) (b.script, b.took, b.end) in
+    one_reading left rest (read.Commands a.commands) (read.Commands b.commands) tt tt (a.script, a.took, a.end) (b.script, b.took, b.end) in
     let same : a.commands ≡ b.commands = cc in
     whole_one b.commands x y (subst (λ cs. IsWholeLog cs x) same a.whole) b.whole
 

@@ -5,7 +5,7 @@ use Rattle.std.specs.declared.rc.RcStr.{RcStr}
 use Rattle.nuc_io.specs.Writing.{Added}
 use Rattle.nuc_report.specs.declared.status.Status.{Status}
 use Rattle.nuc_report.specs.declared.status.Status.TheVariants as status
-use Rattle.nuc_run.specs.Outcome.{WritesOutput, WritesPart}
+use Rattle.nuc_run.specs.Outcome.{WritesOutput}
 
 take_length : (bytes : List ℕ) → take (length bytes) bytes ≡ bytes
 take_length [] = refl

@@ -1,5 +1,5 @@
 -- What a plan holds, what an empty one says, and that the plans of a sync come to an end.
-use Rattle.std.proofs.Common.{◌≡◌, ◌≢◌, ◌⊎◌, ◌<◌, ◌≤◌, ◌+◌, ◌==◌, ◌&&◌, ◌||◌, T, ℕ, zero, suc, Bool, true, false, cond, List, [], ◌∷◌, length, take, map, Option, None, Some, is_some, refl, sym, ◌∙◌, ap, subst, inl, inr, arith}
+use Rattle.std.proofs.Common.{◌≡◌, ◌≢◌, ◌⊎◌, ◌<◌, ◌≤◌, ◌+◌, ◌&&◌, ◌||◌, T, ℕ, zero, suc, Bool, true, false, List, [], ◌∷◌, length, take, map, Option, None, Some, is_some, refl, sym, ◌∙◌, ap, subst, inl, inr, arith}
 use Rattle.std.specs.List.{filter_map, cons_option, list_any}
 use Rattle.std.specs.FinMap as tree
 use Rattle.std.specs.FinMap.{contains_key-keys, entries_sorted}
@@ -11,11 +11,10 @@ use Rattle.std.specs.declared.cmp.Ordering.TheVariants.{Less, Equal, Greater}
 use Rattle.std.proofs.lemmas.Bool.Decides.{eqb_tells}
 use Rattle.nuc_base.specs.declared.node.Node.{Node}
 use Rattle.nuc_base.specs.Trees.{Nodes}
-use Rattle.nuc_base.proofs.Maps.{same_or_not, get_put_same, get_put_other, same_nodes, not_both}
+use Rattle.nuc_base.proofs.Maps.{get_put_other, same_nodes, not_both}
 use Rattle.nuc_class.specs.declared.op.Op.{Op}
 use Rattle.nuc_class.specs.Op.{up_of_new}
-use Rattle.nuc_run.specs.State.{State}
-use Rattle.nuc_run.specs.Plan.{due_at, due, numbered, batch}
+use Rattle.nuc_run.specs.Plan.{due_at, numbered, batch}
 use Rattle.nuc_run.specs.Good.{IsUpload, AllUploads}
 use Rattle.nuc_run.specs.Good.AllUploads.{none, next}
 

@@ -1,13 +1,12 @@
 -- Runs put together.
-use Rattle.std.proofs.Common.{◌≡◌, ℕ, List, [], ◌∷◌, ◌++◌, refl, sym, ◌∙◌, ap, subst, append_assoc, append-nil}
-use Rattle.nuc_step.specs.declared.event.Event.{Event}
+use Rattle.std.proofs.Common.{◌≡◌, List, [], ◌∷◌, ◌++◌, refl, sym, ◌∙◌, ap, subst, append_assoc, append-nil}
 use Rattle.nuc_step.specs.declared.log.LogEntry.{LogEntry}
 use Rattle.nuc_step.specs.declared.log.LogEntry.TheVariants as entry
 use Rattle.nuc_step.specs.declared.reply.Reply.{Reply}
 use Rattle.nuc_run.specs.State.{State}
 use Rattle.nuc_run.specs.Step.{after, Answers}
 use Rattle.nuc_run.specs.Tasks.{Task, event_of, more, Follows}
-use Rattle.nuc_run.specs.Runs.{replayed, replay, Holds, IsLawful, Runs, Did, Began}
+use Rattle.nuc_run.specs.Runs.{replayed, replay, IsLawful, Runs, Did, Began}
 
 replay-append : (w : State) (es fs : List LogEntry) → replay w (es ++ fs) ≡ replay (replay w es) fs
 replay-append w [] fs = refl

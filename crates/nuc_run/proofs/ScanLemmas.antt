@@ -1,23 +1,21 @@
 -- What a scan keeps.
-use Rattle.std.proofs.Common.{◌≡◌, ◌≢◌, ◌⊎◌, ◌<◌, ◌≤◌, ◌+◌, ◌==◌, ◌||◌, ℕ, Bool, true, false, cond, List, [], ◌∷◌, ◌++◌, length, drop, zero, suc, slice_index_or, slice_get, find, Option, None, Some, refl, sym, ◌∙◌, ap, subst, inl, inr, arith}
+use Rattle.std.proofs.Common.{◌≡◌, ◌≢◌, ◌<◌, ◌+◌, ◌==◌, ◌||◌, ℕ, Bool, true, false, cond, List, [], ◌∷◌, ◌++◌, length, drop, zero, suc, slice_index_or, slice_get, find, None, Some, refl, sym, ◌∙◌, ap, subst, inl, inr, arith}
 use Rattle.std.proofs.lemmas.Bool.Decides.{eqb_tells}
 use Rattle.std.proofs.lemmas.Option.{slice_get_read}
 use Rattle.std.specs.Option.{option_map}
 use Rattle.std.specs.FinMap as tree
-use Rattle.nuc_base.specs.Kinds.{FitsKind}
 use Rattle.nuc_base.specs.Legal.{LegalPut}
-use Rattle.nuc_base.specs.SamePlace.{SameName, SamePlace, same_name-sym, equal_names-same, same_name-trans}
-use Rattle.nuc_base.specs.Trees.{Nodes, WellFormed}
+use Rattle.nuc_base.specs.SamePlace.{SameName, SamePlace, same_name-sym}
+use Rattle.nuc_base.specs.Trees.{Nodes}
 use Rattle.nuc_base.specs.declared.node.Counters.{Counters}
 use Rattle.nuc_base.specs.declared.node.Node.{Node}
-use Rattle.nuc_base.proofs.Maps.{after_put, get_put_other, not_both, same_or_not}
+use Rattle.nuc_base.proofs.Maps.{after_put, get_put_other, not_both}
 use Rattle.nuc_base.proofs.Forms.{put_keeps}
 use Rattle.nuc_edits.specs.Edits.{IsNext}
 use Rattle.nuc_edits.specs.declared.edit.Edit.{Edit}
 use Rattle.nuc_folder.specs.declared.item.Item.{Item}
-use Rattle.nuc_hash.specs.Content.{ContentData}
 use Rattle.nuc_run.specs.declared.client.Binding.{Binding}
-use Rattle.nuc_run.specs.Good.{IsAmong, AreNamedElse, AreApart, IsBound, IsObserved}
+use Rattle.nuc_run.specs.Good.{IsAmong, AreNamedElse, AreApart, IsObserved}
 use Rattle.nuc_run.specs.Scan.{Observed, new_file, with_new_file, with_listed, with_item, observed, has_id, key_of, is_known}
 use Rattle.nuc_run.proofs.LegalLemmas.{legal_at_root}
 

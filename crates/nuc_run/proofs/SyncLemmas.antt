@@ -1,8 +1,7 @@
 -- The parts of a sync, and of a script, put together.
-use Rattle.std.proofs.Common.{◌≡◌, ◌≢◌, ◌+◌, ◌<◌, ℕ, zero, suc, List, [], ◌∷◌, ◌++◌, length, drop, slice_get, slice_index_or, Option, None, Some, refl, sym, ◌∙◌, ap, subst, inl, inr, arith}
+use Rattle.std.proofs.Common.{◌≡◌, ◌+◌, ◌<◌, ℕ, zero, suc, List, [], ◌∷◌, ◌++◌, length, drop, slice_get, slice_index_or, Some, refl, sym, ◌∙◌, ap, subst, inl, inr, arith}
 use Rattle.std.proofs.lemmas.Option.{slice_get_read}
-use Rattle.std.specs.List.{flat_map}
-use Rattle.nuc_script.specs.Grammar.{ComeBehind, IsCommand, IsBuilt, IsScript}
+use Rattle.nuc_script.specs.Grammar.{ComeBehind, IsBuilt, IsScript}
 use Rattle.nuc_script.specs.declared.command.Command.{Command}
 use Rattle.nuc_script.specs.declared.command.Command.TheVariants as command
 use Rattle.nuc_folder.specs.declared.user.UserEdit.{UserEdit}
@@ -10,11 +9,9 @@ use Rattle.nuc_folder.specs.declared.user.UserEdit.TheVariants as edit
 use Rattle.nuc_hash.specs.declared.filling.Filling.TheVariants as filling
 use Rattle.nuc_step.specs.declared.event.Event.TheVariants as event
 use Rattle.nuc_step.specs.declared.log.LogEntry.{LogEntry}
-use Rattle.nuc_run.specs.Runs.{Did, Began, Runs, replay, opening, IsWholeLog, IsEarlyLog}
+use Rattle.nuc_run.specs.Runs.{Did, Began, replay, opening, IsWholeLog, IsEarlyLog}
 use Rattle.nuc_run.specs.State.{State, fresh}
 use Rattle.nuc_run.specs.Tasks.{Task, once, plans, pulls, script_tasks, tasks_of}
-use Rattle.nuc_run.specs.World.{at_rest}
-use Rattle.nuc_run.specs.declared.world.World.{World}
 use Rattle.nuc_run.proofs.BatchRun.{did_same}
 use Rattle.nuc_run.proofs.RunLemmas.{began_at, began_more, began_then, did_more, did_nothing, did_then, runs_nothing}
 

@@ -1,18 +1,15 @@
 -- The parts of an upload put together.
-use Rattle.std.proofs.Common.{◌≡◌, ◌+◌, ℕ, List, [], ◌∷◌, ◌++◌, length, Option, None, Some, refl, sym, ◌∙◌, ap, subst, append_assoc}
+use Rattle.std.proofs.Common.{◌≡◌, ◌+◌, ℕ, List, [], ◌∷◌, ◌++◌, length, None, refl, sym, ◌∙◌, ap, subst, append_assoc}
 use Rattle.std.specs.FinMap as tree
-use Rattle.nuc_base.specs.Trees.{Nodes, WellFormed}
 use Rattle.nuc_base.specs.declared.node.Node.{Node}
 use Rattle.nuc_class.specs.declared.op.Op.{Op}
-use Rattle.nuc_class.specs.declared.op.Change.TheVariants.{Put}
 use Rattle.nuc_step.specs.declared.log.LogEntry.{LogEntry}
-use Rattle.nuc_run.specs.declared.entry.Entry.{Entry}
-use Rattle.nuc_run.specs.Good.{Good, HasRead, IsUpload, IsPut, HasPut, InStep}
-use Rattle.nuc_run.specs.Runs.{Did, Began, Runs}
+use Rattle.nuc_run.specs.Good.{Good, HasRead, IsUpload}
+use Rattle.nuc_run.specs.Runs.{Did, Began}
 use Rattle.nuc_run.specs.Scan.{key_of}
 use Rattle.nuc_run.specs.State.{State, Flight}
 use Rattle.nuc_run.specs.Step.{as_planned, next_entry}
-use Rattle.nuc_run.specs.Tasks.{Task, steps_of}
+use Rattle.nuc_run.specs.Tasks.{steps_of}
 use Rattle.nuc_base.proofs.Forms.{put_keeps}
 use Rattle.nuc_run.specs.World.{at_rest, state_of}
 use Rattle.nuc_run.specs.declared.world.World.{World}

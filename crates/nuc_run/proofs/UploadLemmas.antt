@@ -1,11 +1,10 @@
 -- What the three steps of an upload make of a state.
-use Rattle.std.proofs.Common.{◌≡◌, ◌≢◌, ◌⊎◌, ◌<◌, ◌≤◌, ◌+◌, ◌-◌, ◌==◌, ℕ, zero, suc, Bool, true, false, cond, List, [], ◌∷◌, ◌++◌, length, take, drop, Option, None, Some, refl, sym, ◌∙◌, ap, subst, inl, inr, arith, length-append}
+use Rattle.std.proofs.Common.{◌≡◌, ◌+◌, ◌-◌, ◌==◌, ℕ, true, List, [], ◌∷◌, ◌++◌, length, take, drop, Some, refl, sym, ◌∙◌, ap, subst, inl, inr, arith}
 use Rattle.std.proofs.lemmas.Bool.Decides.{eqb_tells}
 use Rattle.std.specs.FinMap as tree
 use Rattle.nuc_base.specs.declared.node.Node.{Node}
 use Rattle.nuc_base.specs.Trees.{Nodes}
 use Rattle.nuc_class.specs.declared.op.Op.{Op}
-use Rattle.nuc_class.specs.Op.{up_of_new}
 use Rattle.nuc_step.specs.declared.event.Event.TheVariants as event
 use Rattle.nuc_step.specs.declared.log.LogEntry.{LogEntry}
 use Rattle.nuc_step.specs.declared.log.LogEntry.TheVariants as entry
@@ -14,7 +13,7 @@ use Rattle.nuc_step.specs.declared.reply.StartReply.TheVariants as start
 use Rattle.nuc_step.specs.declared.reply.TakeReply.TheVariants as take_reply
 use Rattle.nuc_step.specs.declared.reply.DoneReply.TheVariants as done
 use Rattle.nuc_run.specs.declared.entry.Entry.{Entry}
-use Rattle.nuc_run.specs.State.{State, Stage, planned, started, taken, Flight}
+use Rattle.nuc_run.specs.State.{State, Stage, started, taken, Flight}
 use Rattle.nuc_run.specs.Server.{tree_of, tree_after, with_value}
 use Rattle.nuc_class.specs.declared.op.Change.TheVariants.{Put}
 use Rattle.nuc_run.specs.Scan.{key_of}

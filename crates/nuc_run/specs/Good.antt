@@ -1,5 +1,5 @@
 -- What holds between the steps of a script, where nothing but whole batches is in flight.
-use Rattle.std.specs.Prelude.{◌≡◌, ◌≢◌, ◌⊎◌, ℕ, ◌+◌, ◌<◌, ◌≤◌, List, [], ◌∷◌, ◌++◌, length, Option, None, Some}
+use Rattle.std.specs.Prelude.{◌≡◌, ◌≢◌, ◌⊎◌, ℕ, ◌<◌, ◌≤◌, List, [], ◌∷◌, ◌++◌, length, Option, None, Some}
 use Rattle.std.specs.FinMap as tree
 use Rattle.nuc_base.specs.SamePlace.{SameName}
 use Rattle.nuc_base.specs.declared.node.Counters.{Counters}

@@ -1,5 +1,5 @@
 -- What a run changes: the server, the recorded edits, the counters, the client and its folder.
-use Rattle.std.specs.Prelude.{◌≡◌, ℕ, List, [], ◌∷◌, Option, None}
+use Rattle.std.specs.Prelude.{ℕ, List, [], Option, None}
 use Rattle.std.specs.FinMap as map
 use Rattle.nuc_base.specs.declared.node.Counters.{Counters}
 use Rattle.nuc_base.specs.Trees.{Nodes}

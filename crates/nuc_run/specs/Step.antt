@@ -21,7 +21,6 @@ use Rattle.nuc_step.specs.declared.reply.StartReply.TheVariants as start
 use Rattle.nuc_step.specs.declared.reply.TakeReply.TheVariants as take_reply
 use Rattle.nuc_step.specs.declared.reply.DoneReply.TheVariants as done
 use Rattle.nuc_step.specs.declared.reply.MarkReply.TheVariants as mark
-use Rattle.nuc_run.specs.declared.client.Binding.{Binding}
 use Rattle.nuc_run.specs.declared.entry.Entry.{Entry}
 use Rattle.nuc_run.specs.State.{State, ClientState, Listing, Stage, planned, started, taken, Flight}
 use Rattle.nuc_run.specs.Server.{tree_after}

@@ -1,9 +1,6 @@
 -- What the world in code stands for.
-use Rattle.std.specs.Prelude.{ℕ, List, [], Option, None}
-use Rattle.nuc_step.specs.declared.log.Log.{Log}
+use Rattle.std.specs.Prelude.{List, [], Option, None}
 use Rattle.nuc_run.specs.State.{State, Listing, Flight}
-use Rattle.nuc_run.specs.Tasks.{Task}
-use Rattle.nuc_run.specs.Runs.{Did, Began}
 use Rattle.nuc_run.specs.declared.world.World.{World}
 
 -- with this listing held, and these operations in flight

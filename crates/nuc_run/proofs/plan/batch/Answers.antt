@@ -1,4 +1,4 @@
-use Rattle.std.proofs.Common.{rules, ◌≡◌, ◌≤◌, ℕ, length, sym, ◌∙◌, arith}
+use Rattle.std.proofs.Common.{◌≤◌, length, sym, ◌∙◌, arith}
 use Rattle.std.specs.FinMap as map
 use Rattle.nuc_run.proofs.BatchLemmas.{gathered_start, gathered_step, gathered_past, gathered_full, gathered_all, length-keys, same_due}
 use Rattle.nuc_run.proofs.plan.batch.Goals as goal

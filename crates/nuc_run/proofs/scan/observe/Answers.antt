@@ -1,4 +1,3 @@
-use Rattle.std.proofs.Common.{◌≡◌}
 use Rattle.nuc_run.proofs.ScanLemmas.{among_read, item_fits, item_keeps, item_legal, observed_next}
 use Rattle.nuc_run.proofs.scan.observe.Goals as goal
 

@@ -1,4 +1,4 @@
-use Rattle.std.proofs.Common.{rules, ◌≡◌, refl}
+use Rattle.std.proofs.Common.{rules}
 use Rattle.nuc_run.proofs.UploadLemmas.{accepted_tree}
 use Rattle.nuc_run.proofs.server.Server.accept.Goals as goal
 

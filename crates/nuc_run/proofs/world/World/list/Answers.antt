@@ -1,6 +1,6 @@
 use Rattle.std.proofs.Common.{subst, sym}
 use Rattle.nuc_run.specs.Good.{AreApart}
-use Rattle.nuc_run.proofs.GoodLemmas.{apart_of, on_ok}
+use Rattle.nuc_run.proofs.GoodLemmas.{apart_of}
 use Rattle.nuc_run.proofs.world.World.list.Goals as goal
 
 pub returns-clause-apart : goal.returns-clause-apart

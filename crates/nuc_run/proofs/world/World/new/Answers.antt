@@ -1,7 +1,5 @@
-use Rattle.std.proofs.Common.{◌≡◌, refl, sym, subst}
+use Rattle.std.proofs.Common.{refl, sym, subst}
 use Rattle.nuc_run.specs.Good.{Good}
-use Rattle.nuc_run.specs.State.{State, fresh}
-use Rattle.nuc_run.specs.World.{at_rest}
 use Rattle.nuc_run.proofs.GoodLemmas.{fresh_world, good_fresh}
 use Rattle.nuc_run.proofs.world.World.new.Goals as goal
 

@@ -1,4 +1,4 @@
-use Rattle.std.proofs.Common.{◌≡◌, ◌∙◌, ap}
+use Rattle.std.proofs.Common.{◌∙◌, ap}
 use Rattle.nuc_tree.specs.State.{TreeState}
 use Rattle.nuc_run.specs.World.{at_rest}
 use Rattle.nuc_run.proofs.BatchRun.{all_here_next, batch_next, batch_stopped, now_has, op_read, upload_at, uploads_next}

@@ -1,4 +1,4 @@
-use Rattle.std.proofs.Common.{◌≡◌, sym, ◌∙◌, ap, subst, refl, OnOk}
+use Rattle.std.proofs.Common.{sym, ◌∙◌, subst}
 use Rattle.nuc_run.specs.Good.{Good}
 use Rattle.nuc_run.specs.World.{at_rest}
 use Rattle.nuc_run.specs.declared.world.World.{World}

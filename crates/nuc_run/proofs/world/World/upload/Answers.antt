@@ -1,4 +1,4 @@
-use Rattle.std.proofs.Common.{◌≡◌, [], ◌∷◌, sym, ◌∙◌, ap, subst, refl}
+use Rattle.std.proofs.Common.{[], ◌∷◌, sym, ◌∙◌, ap, subst}
 use Rattle.nuc_run.specs.Good.{Good, HasPut}
 use Rattle.nuc_run.specs.Step.{as_planned}
 use Rattle.nuc_run.specs.World.{at_rest}
