@@ -17,20 +17,12 @@ use Rattle.nuc_run.specs.Plan.{batch}
 use Rattle.nuc_run.specs.Tasks.{Task, after_plan, plans, steps_of}
 use Rattle.nuc_run.specs.World.{at_rest, state_of}
 use Rattle.nuc_run.specs.declared.world.World.{World}
+use Rattle.nuc_run.proofs.ListLemmas.{drop_at, take_at}
 use Rattle.nuc_run.proofs.GoodLemmas.{upload_synced}
 use Rattle.nuc_run.proofs.RunLemmas.{did_then, did_more, began_then, began_more}
 use Rattle.nuc_run.proofs.PlanLemmas.{batch_lessens, batch_uploads, left_to_do}
 
 -- the batch's next operation
-drop_at : (ops : List Op) (i : ℕ) (op : Op) → slice_get ops i ≡ Some op → drop i ops ≡ op ∷ drop (i + 1) ops
-drop_at [] i op e = cc
-drop_at (o ∷ os) zero op e = ap (λ o. o ∷ os) (let same : o ≡ op = cc in same)
-drop_at (o ∷ os) (suc i) op e = let same : suc i + 1 ≡ suc (i + 1) = omega arith in drop_at os i op e ∙ ap (λ n. op ∷ drop n (o ∷ os)) (sym same)
-
-take_at : (ops : List Op) (i : ℕ) (op : Op) → slice_get ops i ≡ Some op → take (i + 1) ops ≡ take i ops ++ op ∷ []
-take_at [] i op e = cc
-take_at (o ∷ os) zero op e = ap (λ o. o ∷ []) (let same : o ≡ op = cc in same)
-take_at (o ∷ os) (suc i) op e = let same : suc i + 1 ≡ suc (i + 1) = omega arith in ap (λ n. take n (o ∷ os)) same ∙ ap (λ os. o ∷ os) (take_at os i op e)
 
 pub op_read : (ops : List Op) (i : ℕ) (op : Op) → i < length ops → op ≡ slice_index_or ops i op → slice_get ops i ≡ Some op
 op_read ops i op within is = slice_get_read ops (length ops) i op refl within is

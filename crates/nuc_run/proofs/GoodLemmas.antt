@@ -33,6 +33,7 @@ use Rattle.nuc_run.specs.State.{State, fresh}
 use Rattle.nuc_run.specs.World.{at_rest}
 use Rattle.nuc_run.specs.declared.world.World.{World}
 use Rattle.nuc_run.specs.Step.{listing, next_entry}
+use Rattle.nuc_run.proofs.ListLemmas.{same_number}
 use Rattle.nuc_run.proofs.LegalLemmas.{legal_at_root}
 use Rattle.nuc_run.proofs.UploadLemmas.{tree_of-accepted}
 
@@ -134,8 +135,6 @@ apart_of (f ∷ fs) apart = (
 )
 
 -- the bytes of a listed file are there
-same_number : (n : ℕ) → (n == n) ≡ true
-same_number n = elim (eqb_tells n n) [ inl (t, e) ↦ t | inr (t, e) ↦ absurd (e refl) ]
 
 pub found_file : (files : List FileData) (a : Item) → IsAmong a (map item_of files) → (f : FileData) × (find (has_key a.key.0) files ≡ Some f)
 found_file [] a here = absurd here

@@ -1,6 +1,7 @@
 pub mod RunLemmas
 pub mod PlanLemmas
 pub mod LegalLemmas
+pub mod ListLemmas
 pub mod UploadLemmas
 pub mod BatchLemmas
 pub mod ScanLemmas

@@ -17,11 +17,10 @@ use Rattle.nuc_folder.specs.declared.item.Item.{Item}
 use Rattle.nuc_run.specs.declared.client.Binding.{Binding}
 use Rattle.nuc_run.specs.Good.{IsAmong, AreNamedElse, AreApart, IsObserved}
 use Rattle.nuc_run.specs.Scan.{Observed, new_file, with_new_file, with_listed, with_item, observed, has_id, key_of, is_known}
+use Rattle.nuc_run.proofs.ListLemmas.{drop_at, same_number}
 use Rattle.nuc_run.proofs.LegalLemmas.{legal_at_root}
 
 -- KEYS
-same_number : (n : ℕ) → (n == n) ≡ true
-same_number n = elim (eqb_tells n n) [ inl (t, e) ↦ t | inr (t, e) ↦ absurd (e refl) ]
 
 other_number : (x y : ℕ) → x ≢ y → (x == y) ≡ false
 other_number x y apart = elim (eqb_tells x y) [ inl (t, e) ↦ absurd (apart e) | inr (t, e) ↦ t ]
@@ -161,10 +160,6 @@ among_at (f ∷ fs) zero item e = inl (let same : f ≡ item = cc in sym same)
 among_at (f ∷ fs) (suc i) item e = inr (among_at fs i item e)
 
 -- the listing's next item
-pub drop_at : (items : List Item) (i : ℕ) (item : Item) → slice_get items i ≡ Some item → drop i items ≡ item ∷ drop (i + 1) items
-drop_at [] i item e = cc
-drop_at (f ∷ fs) zero item e = ap (λ g. g ∷ fs) (let same : f ≡ item = cc in same)
-drop_at (f ∷ fs) (suc i) item e = let same : suc i + 1 ≡ suc (i + 1) = omega arith in drop_at fs i item e ∙ ap (λ n. item ∷ drop n (f ∷ fs)) (sym same)
 
 pub item_at : (items : List Item) (i : ℕ) (item : Item) → i < length items → item ≡ slice_index_or items i item → slice_get items i ≡ Some item
 item_at items i item within is = slice_get_read items (length items) i item refl within is

@@ -12,6 +12,7 @@ use Rattle.nuc_step.specs.declared.log.LogEntry.{LogEntry}
 use Rattle.nuc_run.specs.Runs.{Did, Began, replay, opening, IsWholeLog, IsEarlyLog}
 use Rattle.nuc_run.specs.State.{State, fresh}
 use Rattle.nuc_run.specs.Tasks.{Task, once, plans, pulls, script_tasks, tasks_of}
+use Rattle.nuc_run.proofs.ListLemmas.{drop_at}
 use Rattle.nuc_run.proofs.BatchRun.{did_same}
 use Rattle.nuc_run.proofs.RunLemmas.{began_at, began_more, began_then, did_more, did_nothing, did_then, runs_nothing}
 
@@ -57,10 +58,6 @@ pub stopped_before : {x y : List LogEntry} (a : State) (ts : List Task) → y �
 stopped_before {x} a ts same = stopped_there (did_nothing x a ts) same
 
 -- A SCRIPT
-drop_at : (cs : List Command) (i : ℕ) (c : Command) → slice_get cs i ≡ Some c → drop i cs ≡ c ∷ drop (i + 1) cs
-drop_at [] i c e = cc
-drop_at (d ∷ ds) zero c e = ap (λ d. d ∷ ds) (let same : d ≡ c = cc in same)
-drop_at (d ∷ ds) (suc i) c e = let same : suc i + 1 ≡ suc (i + 1) = omega arith in drop_at ds i c e ∙ ap (λ n. c ∷ drop n (d ∷ ds)) (sym same)
 
 pub command_read : (cs : List Command) (i : ℕ) (c : Command) → i < length cs → c ≡ slice_index_or cs i c → slice_get cs i ≡ Some c
 command_read cs i c within is = slice_get_read cs (length cs) i c refl within is

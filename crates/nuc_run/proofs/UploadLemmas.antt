@@ -20,10 +20,8 @@ use Rattle.nuc_run.specs.Scan.{key_of}
 use Rattle.nuc_run.specs.Step.{with_client, as_planned, flight_of, staged, without, bytes_of_key, read_by, with_started, after_start, next_entry, take_at, taken_by, after_take, news, done_at, done_by, after_done, IsStarted, IsTaken}
 use Rattle.nuc_run.specs.Tasks.{Task, once, steps_of}
 use Rattle.nuc_run.specs.Runs.{Runs}
+use Rattle.nuc_run.proofs.ListLemmas.{same_number}
 use Rattle.nuc_run.proofs.RunLemmas.{runs_one, runs_then}
-
-same_number : (n : ℕ) → (n == n) ≡ true
-same_number n = elim (eqb_tells n n) [ inl (t, e) ↦ t | inr (t, e) ↦ absurd (e refl) ]
 
 pub first_flight : (n : ℕ) (f : Flight) (fs : List Flight) → f.op.number ≡ n → flight_of n (f ∷ fs) ≡ Some f
 first_flight n f fs e = rw (e, same_number n) refl

@@ -16,7 +16,7 @@ abbrev pub replay : State → List LogEntry → State
 replay w [] = w
 replay w (e ∷ es) = replay (replayed w e) es
 
--- each reply is the one that the step gives at that point
+-- each reply is the one that the step gives at that point. An opening is no step: it stands in front of these
 abbrev pub Holds : State → LogEntry → Type 0
 Holds w (entry.Opened clients kept) = ⊥
 Holds w (entry.Stepped e r) = Answers w e r
@@ -41,7 +41,7 @@ pub record IsWholeLog (cs : List Command) (log : List LogEntry) : Type 0 where
   pub opened : log ≡ opening ∷ entries
   pub runs : Runs fresh (script_tasks cs) entries (replay fresh entries) []
 
--- one that ended early, before any of its steps or even before the opening
+-- one that ended early: after any number of its steps, or before the opening, where entries and left say nothing
 pub record IsEarlyLog (cs : List Command) (log : List LogEntry) : Type 0 where
   pub entries : List LogEntry
   pub left : List Task

@@ -1,4 +1,4 @@
--- What a scan makes of a listing. Files are only added yet, so a file that is known stays as it is.
+-- What a scan makes of a listing. A file that is known stays as it is: no script can write to one yet.
 use Rattle.std.specs.Prelude.{ℕ, ◌+◌, ◌==◌, Bool, false, List, [], ◌∷◌, ◌++◌, cond, find, Option, None, Some}
 use Rattle.std.specs.List.{list_any}
 use Rattle.std.specs.Option.{option_map}

@@ -1,5 +1,6 @@
 -- One step: what an event changes, and which reply it is given. `after` and `Answers` are the one meaning of a
--- log, and whatever is claimed of a run is claimed by them. There is one client yet, with the number 1.
+-- log, and whatever is claimed of a run is claimed by them. There is one client yet, with the number 1. `after` has a
+-- value for every event; where `Answers` allows no reply, as for an operation that nobody planned, no log gets there.
 use Rattle.std.specs.Prelude.{◌≡◌, ◌≢◌, ℕ, ◌+◌, ◌-◌, ◌==◌, cond, List, [], ◌∷◌, ◌++◌, length, take, drop, map, find, Option, None, Some, IsSome, IsSomeAnd}
 use Rattle.nuc_base.specs.declared.node.Node.{Node}
 use Rattle.std.specs.FinMap as tree

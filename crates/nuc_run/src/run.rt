@@ -22,7 +22,7 @@ use std::rc::RcStr;
 /// Reads a script, runs it over a fresh world in memory, and writes the log, the report and the status.
 ///
 /// The words are those of the command line behind the program's name; the one command is `run`. Nothing is run where
-/// the script has a fault, and nothing is written where memory was wanted before the output.
+/// the script has a fault, and nothing is written where memory was wanted before the output or for its text.
 pub fn run_script<S: Source, K: Sink>(
     alloc: Global,
     words: &[RcStr],

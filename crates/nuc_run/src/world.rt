@@ -274,7 +274,8 @@ impl World {
         record(log, event, Reply::Took(TakeReply::Accepted(rev)))
     }
 
-    /// An upload is done: Remote and Synced have its node, and the cursor is behind its commit.
+    /// An upload is done: Remote and Synced have its node, and the cursor is behind its commit. Remote was the server's
+    /// tree before that commit, so that its node is all that Remote wants.
     fn done(&mut self, alloc: Global, log: &mut Log, op: &Op, node: &Node) -> Result<(), AllocError>
         requires id { 0 < op.now.id.0 }
         requires fits { FitsKind node.now }
