@@ -8,6 +8,8 @@ mod plan;
 mod run;
 mod scan;
 mod server;
+#[cfg(test)]
+mod tests;
 mod world;
 
 pub use run::{has_one_outcome, run_script};
