@@ -117,7 +117,7 @@ fn a_script_gives_its_output(rt: HostRuntime) -> Result<(), Fail> {
         ),
         ("write 1 /f0 =0\nsync 1\n", Status::Ok, 11, ZERO_AND_SYNC),
         (
-            "write 1 /a =1\nsync 1\nsync 1\n",
+            "write 1 /a =1\nsync 1\nwrite 1 /a =2\n",
             fault(3),
             0,
             "status 2 3 notbuilt\n",
@@ -135,7 +135,7 @@ fn a_script_gives_its_output(rt: HostRuntime) -> Result<(), Fail> {
             "status 2 2 notbuilt\n",
         ),
         ("write 1 /a/b =1\n", fault(1), 0, "status 2 1 notbuilt\n"),
-        ("sync 1\n", fault(1), 0, "status 2 1 notbuilt\n"),
+        ("sync 2\n", fault(1), 0, "status 2 1 notbuilt\n"),
     ];
     for (script, status, entries, printed) in table {
         let mut output = MemSink::new(alloc);

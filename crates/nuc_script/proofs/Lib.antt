@@ -3,3 +3,4 @@ pub mod Lines
 pub mod OneReading
 pub mod Scripts
 pub mod Words
+pub mod Follows

@@ -31,12 +31,15 @@ script_grows cs c script is may = come_more [] cs c script is may
 pub script_last : (cs : List Command) (c : Command) → IsScript (cs ++ c ∷ []) → IsCommand c × MayFollow cs c
 script_last cs c script = come_last [] cs c script
 
--- so far a script has at most two commands
-pub script_short : (cs : List Command) → IsScript cs → length cs ≤ 2
-script_short [] script = omega arith
-script_short (a ∷ []) script = omega arith
-script_short (a ∷ b ∷ []) script = omega arith
-script_short (a ∷ b ∷ c ∷ cs) script = absurd script.2.2.1
+-- a script has at most 1,000 commands
+come_short : (before cs : List Command) → ComeBehind before cs → length before ≤ 1000 → length (before ++ cs) ≤ 1000
+come_short before [] come short = omega (arith, short, length-append before [])
+come_short before (c ∷ cs) (is, may, come) short =
+    subst (λ l. length l ≤ 1000) (append_assoc before (c ∷ []) cs)
+    (come_short (before ++ c ∷ []) cs come (omega (arith, may.0, length-append before (c ∷ []))))
+
+pub script_short : (cs : List Command) → IsScript cs → length cs ≤ 1000
+script_short cs script = come_short [] cs script (omega arith)
 
 pub line_short : (c : Command) → IsCommand c → length (command_text c) ≤ 4098
 line_short c is = omega (arith, is.short, length-append (command_line c) (10 ∷ []))

@@ -1,7 +1,10 @@
 -- Which commands a script may have, and in which order.
-use Rattle.std.specs.Prelude.{◌≡◌, ◌≢◌, ℕ, ◌≤◌, List, [], ◌∷◌, ◌++◌, length, All}
+use Rattle.std.specs.Prelude.{◌≡◌, ◌≢◌, ℕ, ◌≤◌, ◌<◌, Bool, false, List, [], ◌∷◌, ◌++◌, length, All}
+use Rattle.std.specs.List.{list_any}
 use Rattle.nuc_base.specs.Names.{IsName}
+use Rattle.nuc_base.specs.SamePlace.{is_same_name}
 use Rattle.nuc_hash.specs.declared.filling.Filling.TheVariants as filling
+use Rattle.nuc_folder.specs.declared.user.UserEdit.{UserEdit}
 use Rattle.nuc_folder.specs.declared.user.UserEdit.TheVariants as edit
 use Rattle.nuc_script.specs.Text.{command_line}
 use Rattle.nuc_script.specs.declared.command.Command.{Command}
@@ -30,13 +33,30 @@ pub record IsCommand (c : Command) : Type 0 where
   pub built : IsBuilt c
   pub short : length (command_line c) ≤ 4096
 
--- a write may come first, a sync behind it, and nothing behind that
+-- two paths of one name each, and the same one
+abbrev pub is_same_path : List (List ℕ) → List (List ℕ) → Bool
+is_same_path [] names = false
+is_same_path (a ∷ more) [] = false
+is_same_path (a ∷ []) (b ∷ []) = is_same_name a b
+is_same_path (a ∷ []) (b ∷ next ∷ names) = false
+is_same_path (a ∷ next ∷ more) (b ∷ names) = false
+
+abbrev pub path_of : UserEdit → List (List ℕ)
+path_of (edit.Write path filling) = path.names
+
+-- the command writes the file at this path
+abbrev pub writes : List (List ℕ) → Command → Bool
+writes names (command.User client edit) = is_same_path (path_of edit) names
+writes names (command.Sync client) = false
+
+-- what the command writes, none of these does
+abbrev pub IsNew : List Command → Command → Type 0
+IsNew before (command.User client edit) = list_any (writes (path_of edit)) before ≡ false
+IsNew before (command.Sync client) = Unit {0}
+
+-- a script has at most 1,000 commands, and writes no file twice
 abbrev pub MayFollow : List Command → Command → Type 0
-MayFollow [] (command.User client edit) = Unit {0}
-MayFollow [] (command.Sync client) = ⊥
-MayFollow (first ∷ []) (command.User client edit) = ⊥
-MayFollow (first ∷ []) (command.Sync client) = Unit {0}
-MayFollow (first ∷ second ∷ more) next = ⊥
+MayFollow before c = (length before < 1000) × IsNew before c
 
 -- behind the first commands the others may come, one after the other
 abbrev pub ComeBehind : List Command → List Command → Type 0

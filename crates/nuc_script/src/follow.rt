@@ -1,15 +1,64 @@
-ghost use Rattle.std.specs.Prelude.{MatchBool};
-ghost use Rattle.nuc_script.specs.Grammar.{MayFollow};
+ghost use Rattle.std.specs.Prelude.{◌≡◌, MatchBool};
+ghost use Rattle.std.specs.List.{list_any};
+ghost use Rattle.nuc_script.specs.Grammar.{IsNew, MayFollow, is_same_path, path_of, writes};
 
 use crate::Command;
+use nuc_base::Path;
+use nuc_folder::UserEdit;
+
+/// The most commands of a script.
+const MOST_COMMANDS: usize = 1000;
 
 /// Whether a script that begins with these commands may go on with this one.
-pub fn may_follow(commands: &[Command], next: &Command) -> bool
-    ensures { MatchBool result (MayFollow commands.now next.now) (¬ (MayFollow commands.now next.now)) }
+pub fn may_follow(before: &[Command], next: &Command) -> bool
+    ensures { MatchBool result (MayFollow before.now next.now) (¬ (MayFollow before.now next.now)) }
 {
-    match commands {
-        [] => matches!(next, Command::User { .. }),
-        [_] => matches!(next, Command::Sync { .. }),
+    before.len() < MOST_COMMANDS && is_new(before, next)
+}
+
+/// Whether none of these commands writes what this one does.
+fn is_new(before: &[Command], next: &Command) -> bool
+    ensures { MatchBool result (IsNew before.now next.now) (¬ (IsNew before.now next.now)) }
+{
+    match next {
+        Command::User { edit, .. } => !is_written(before, path_of(edit)),
+        Command::Sync { .. } => true,
+    }
+}
+
+/// Whether one of these commands writes the file at this path.
+fn is_written(before: &[Command], path: &Path) -> bool
+    ensures { result ≡ list_any (writes path.now.names) before.now }
+{
+    before.iter().any(|command| writes(command, path))
+}
+
+fn writes(command: &Command, path: &Path) -> bool
+    ensures { result ≡ writes path.now.names command.now }
+{
+    match command {
+        Command::User { edit, .. } => is_same_path(path_of(edit), path),
+        Command::Sync { .. } => false,
+    }
+}
+
+fn path_of(edit: &UserEdit) -> &Path
+    ensures { result.now.names ≡ path_of edit.now }
+{
+    match edit {
+        UserEdit::Write(path, _) => path,
+    }
+}
+
+/// Whether the paths have one name each, and the same one.
+fn is_same_path(one: &Path, other: &Path) -> bool
+    ensures { result ≡ is_same_path one.now.names other.now.names }
+{
+    match one.names.as_slice() {
+        [a] => match other.names.as_slice() {
+            [b] => a.same(b),
+            _ => false,
+        },
         _ => false,
     }
 }

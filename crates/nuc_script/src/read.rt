@@ -1,8 +1,10 @@
 ghost use Rattle.std.specs.Prelude.{◌≡◌, ◌≤◌, ℕ, false, length, IfOk};
 ghost use Rattle.nuc_io.specs.Causes.{HasCause};
 ghost use Rattle.nuc_io.specs.Line.{line_text, IsOneLine};
+ghost use Rattle.nuc_script.specs.Grammar.{IsCommand};
 ghost use Rattle.nuc_script.specs.Reading.{ReadsScript, TookLines, IsCommands};
 ghost use Rattle.nuc_script.specs.Steps.{Says, ReadsNext, JudgesLine, IsNextCommand};
+ghost use Rattle.nuc_script.specs.Text.{command_text};
 
 use crate::follow::may_follow;
 use crate::line::parse_line;
@@ -88,9 +90,21 @@ fn judge(alloc: Global, line: &LineBuf, before: &[Command]) -> Next
     ensures { JudgesLine before.now (line_text line.now) result }
 {
     match command_of(alloc, line) {
-        Ok(Some(command)) if may_follow(before, &command) => Next::Command(command),
-        Ok(_) => Next::Fault(LineFault::NotBuilt),
+        Ok(Some(command)) => placed(before, command),
+        Ok(None) => Next::Fault(LineFault::NotBuilt),
         Err(AllocError) => Next::Memory,
+    }
+}
+
+/// What a command's line is behind the commands before.
+fn placed(before: &[Command], command: Command) -> Next
+    requires { IsCommand command }
+    ensures { JudgesLine before.now (command_text command) result }
+{
+    if may_follow(before, &command) {
+        Next::Command(command)
+    } else {
+        Next::Fault(LineFault::NotBuilt)
     }
 }
 

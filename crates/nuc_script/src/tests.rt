@@ -41,7 +41,15 @@ fn scripts_are_read_strictly(rt: HostRuntime) -> Result<(), Fail> {
             Wanted::Commands(2),
         ),
         (b"write 1 /a =\n".as_slice(), Wanted::Commands(1)),
-        (b"sync 1\n".as_slice(), Wanted::Fault(1)),
+        (b"sync 1\nsync 1\n".as_slice(), Wanted::Commands(2)),
+        (
+            b"write 1 /a =x\nwrite 1 /b =y\nsync 1\nwrite 1 /ab =\n".as_slice(),
+            Wanted::Commands(4),
+        ),
+        (
+            b"write 1 /a =x\nsync 1\nwrite 1 /a =y\n".as_slice(),
+            Wanted::Fault(3),
+        ),
         (b"write 1 /a =x".as_slice(), Wanted::Fault(1)),
         (b"write 1 /a  =x\n".as_slice(), Wanted::Fault(1)),
         (b"write 1 /a/b =x\n".as_slice(), Wanted::Fault(1)),
@@ -49,17 +57,27 @@ fn scripts_are_read_strictly(rt: HostRuntime) -> Result<(), Fail> {
         (b"write 2 /a =x\n".as_slice(), Wanted::Fault(1)),
         (b"\n".as_slice(), Wanted::Fault(1)),
         (b"write 1 /a =x\nsync 1\r\n".as_slice(), Wanted::Fault(2)),
-        (
-            b"write 1 /a =x\nwrite 1 /b =y\n".as_slice(),
-            Wanted::Fault(2),
-        ),
-        (
-            b"write 1 /a =x\nsync 1\nsync 1\n".as_slice(),
-            Wanted::Fault(3),
-        ),
     ];
     for (text, wanted) in table {
         let mut source = MemSource::new(alloc, text.to_vec(alloc)?);
+        let read = read_script(alloc, &mut source);
+        assert!(rt; is_wanted(&read, wanted));
+    }
+    Ok(())
+}
+
+#[test]
+fn a_script_has_at_most_1000_commands(rt: HostRuntime) -> Result<(), Fail> {
+    let alloc = rt.alloc();
+    for (lines, wanted) in [
+        (1000usize, Wanted::Commands(1000)),
+        (1001usize, Wanted::Fault(1001)),
+    ] {
+        let mut text = Vec::new(alloc);
+        for _ in 0..lines {
+            text.extend_from_slice(b"sync 1\n")?;
+        }
+        let mut source = MemSource::new(alloc, text);
         let read = read_script(alloc, &mut source);
         assert!(rt; is_wanted(&read, wanted));
     }
