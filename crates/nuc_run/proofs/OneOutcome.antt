@@ -3,7 +3,9 @@ use Rattle.std.proofs.Common.{◌≡◌, ℕ, false, List, [], ◌∷◌, ◌++�
 use Rattle.std.specs.Option.{IsSomeAnd}
 use Rattle.nuc_script.specs.declared.command.Command.{Command}
 use Rattle.nuc_script.specs.declared.script_read.ScriptRead.TheVariants as read
-use Rattle.nuc_script.proofs.OneReading.{one_reading}
+use Rattle.nuc_script.proofs.OneReading.{every_script_is_read, one_reading}
+use Rattle.nuc_script.specs.Grammar.{IsScript}
+use Rattle.nuc_script.specs.Text.{script_text}
 use Rattle.nuc_step.specs.declared.event.Event.{Event}
 use Rattle.nuc_step.specs.declared.event.Event.TheVariants as event
 use Rattle.nuc_step.specs.declared.log.LogEntry.{LogEntry}
@@ -17,7 +19,7 @@ use Rattle.nuc_step.specs.declared.reply.TakeReply.TheVariants as take_reply
 use Rattle.nuc_step.specs.declared.reply.DoneReply.TheVariants as done
 use Rattle.nuc_step.specs.declared.reply.MarkReply.TheVariants as mark
 use Rattle.nuc_report.specs.declared.status.Status.TheVariants as status
-use Rattle.nuc_run.specs.Outcome.{OneOutcome, RanAll}
+use Rattle.nuc_run.specs.Outcome.{EveryScriptIsRun, OneOutcome, RanAll}
 use Rattle.nuc_run.specs.Runs.{IsLawful, IsWholeLog, replayed}
 use Rattle.nuc_run.specs.Scan.{observed}
 use Rattle.nuc_run.specs.State.{State, Listing, fresh}
@@ -114,3 +116,18 @@ one_outcome words left rest status.Memory _ x y c d p q a b = absurd c
 one_outcome words left rest _ status.ReadFault x y c d p q a b = absurd d
 one_outcome words left rest _ status.WriteFault x y c d p q a b = absurd d
 one_outcome words left rest _ status.Memory x y c d p q a b = absurd d
+
+ran_it : (cs : List Command) (rest : List ℕ) (x : List LogEntry) → IsScript cs → RanAll (Some (script_text cs)) (Some rest) x → IsWholeLog cs x
+ran_it cs rest x script a =
+    let one : read.Commands a.commands ≡ read.Commands cs = every_script_is_read rest cs (read.Commands a.commands) script tt (a.script, a.took, a.end) in
+    let same : a.commands ≡ cs = cc in
+    subst (λ cs. IsWholeLog cs x) same a.whole
+
+pub every_script_is_run : EveryScriptIsRun
+every_script_is_run words cs rest status.Ok x run script c p a = (refl, ran_it cs rest x script a)
+every_script_is_run words cs rest status.Usage x run script c p a = absurd (p run)
+every_script_is_run words cs rest (status.ScriptFault l k) x run script c p a =
+    let never : read.Fault l k ≡ read.Commands cs = every_script_is_read rest cs (read.Fault l k) script tt a.0 in cc
+every_script_is_run words cs rest status.ReadFault x run script c p a = absurd c
+every_script_is_run words cs rest status.WriteFault x run script c p a = absurd c
+every_script_is_run words cs rest status.Memory x run script c p a = absurd c

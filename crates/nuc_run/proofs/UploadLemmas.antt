@@ -1,6 +1,5 @@
 -- What the three steps of an upload make of a state.
-use Rattle.std.proofs.Common.{◌≡◌, ◌+◌, ◌-◌, ◌==◌, ℕ, true, List, [], ◌∷◌, ◌++◌, length, take, drop, Some, refl, sym, ◌∙◌, ap, subst, inl, inr, arith}
-use Rattle.std.proofs.lemmas.Bool.Decides.{eqb_tells}
+use Rattle.std.proofs.Common.{◌≡◌, ◌+◌, ◌-◌, ℕ, List, [], ◌∷◌, ◌++◌, length, take, drop, Some, refl, sym, ◌∙◌, ap, subst, arith}
 use Rattle.std.specs.FinMap as tree
 use Rattle.nuc_base.specs.declared.node.Node.{Node}
 use Rattle.nuc_base.specs.Trees.{Nodes}

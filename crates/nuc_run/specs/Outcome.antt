@@ -106,3 +106,8 @@ abbrev pub OneOutcome : Type 0
 OneOutcome = (words : List (RcStr Global)) (left rest : List ℕ) (a b : Status) (x y : List LogEntry) → IsDecided a → IsDecided b
     → JudgesWords words a → JudgesWords words b → RunsScript (Some left) a x (Some rest) → RunsScript (Some left) b y (Some rest)
     → (a ≡ b) × (x ≡ y)
+
+-- where the words ask for a run and the source has a script, the run does all of it
+abbrev pub EveryScriptIsRun : Type 0
+EveryScriptIsRun = (words : List (RcStr Global)) (cs : List Command) (rest : List ℕ) (a : Status) (x : List LogEntry) → AreRun words → IsScript cs → IsDecided a
+    → JudgesWords words a → RunsScript (Some (script_text cs)) a x (Some rest) → (a ≡ status.Ok) × IsWholeLog cs x

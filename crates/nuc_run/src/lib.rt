@@ -12,4 +12,4 @@ mod server;
 mod tests;
 mod world;
 
-pub use run::{has_one_outcome, run_script};
+pub use run::{has_one_outcome, run_script, runs_every_script};

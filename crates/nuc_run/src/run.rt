@@ -2,7 +2,7 @@ ghost use Rattle.std.specs.Prelude.{◌≡◌, ◌≢◌, ◌⊎◌, [], IfOk, M
 ghost use Rattle.nuc_io.specs.Causes.{HasCause};
 ghost use Rattle.nuc_report.specs.Output.{output_of, refusal_text};
 ghost use Rattle.nuc_run.specs.Good.{Good};
-ghost use Rattle.nuc_run.specs.Outcome.{AreRun, EndsAs, JudgesWords, OneOutcome, RunsScript, WritesOutput, seen_in, whole_output};
+ghost use Rattle.nuc_run.specs.Outcome.{AreRun, EndsAs, EveryScriptIsRun, JudgesWords, OneOutcome, RunsScript, WritesOutput, seen_in, whole_output};
 ghost use Rattle.nuc_run.specs.Runs.{Began, Did, IsEarlyLog, IsWholeLog, replay};
 ghost use Rattle.nuc_run.specs.State.{fresh};
 ghost use Rattle.nuc_run.specs.Tasks.{tasks_of};
@@ -191,6 +191,12 @@ fn text_of(alloc: Global, world: &World, log: &Log) -> Result<String, AllocError
 /// output.
 pub fn has_one_outcome()
     ensures { OneOutcome }
+{}
+
+/// Where the words ask for a run and the source has a script, no read fails and memory suffices, the status before the
+/// output is that of a run that ended well, and the log is the script's whole log.
+pub fn runs_every_script()
+    ensures { EveryScriptIsRun }
 {}
 
 /// Writes a text, and says how the run ends by that.

@@ -1,4 +1,4 @@
-use crate::run_script;
+use crate::{has_one_outcome, run_script, runs_every_script};
 use nuc_base::LineFault;
 use nuc_io::{LineBuf, MemSink, MemSource, read_line};
 use nuc_report::{Ended, Status};
@@ -144,6 +144,8 @@ fn a_script_gives_its_output(rt: HostRuntime) -> Result<(), Fail> {
         assert!(rt; ended.log.entries().len() == entries);
         assert!(rt; output.bytes() == printed.as_bytes());
     }
+    has_one_outcome();
+    runs_every_script();
     Ok(())
 }
 

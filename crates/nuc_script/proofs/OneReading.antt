@@ -1,7 +1,7 @@
 -- The bytes that were taken are read in one way.
-use Rattle.std.proofs.Common.{◌≡◌, ◌≢◌, ◌⊎◌, ℕ, ◌+◌, true, ltb, List, [], ◌∷◌, ◌++◌, length, drop, get_or, Option, Some, unwrap_or, codes, refl, sym, ap, subst, ◌∙◌, inl, inr, arith, append_assoc, length-append}
+use Rattle.std.proofs.Common.{◌≡◌, ◌≢◌, ◌⊎◌, ◌<◌, ℕ, ◌+◌, true, ltb, List, [], ◌∷◌, ◌++◌, length, drop, get_or, Option, Some, unwrap_or, codes, refl, sym, ap, subst, ◌∙◌, inl, inr, arith, append_assoc, length-append}
 use Rattle.std.specs.List.{list_all}
-use Rattle.std.proofs.lemmas.List.{append-nil, append_cancel_right, get_or_at}
+use Rattle.std.proofs.lemmas.List.{append-nil, append_cancel_right, get_or_at, get_or_append_left}
 use Rattle.std.proofs.lemmas.List.Elements.{All-head, All-tail, All-append}
 use Rattle.std.proofs.lemmas.List.Sums.{AllPass-from_list_all}
 use Rattle.nuc_io.specs.Reading.{Took}
@@ -101,13 +101,16 @@ taken_is left taken rest (behind, same, cut) = cut ∙ ap (λ o. taken ++ unwrap
 same_taken : (left one two rest : List ℕ) → Took (Some left) one (Some rest) → Took (Some left) two (Some rest) → one ≡ two
 same_taken left one two rest first second = append_cancel_right one two rest (sym (taken_is left one rest first) ∙ taken_is left two rest second)
 
-not_empty : (cs : List Command) (line : List ℕ) (rest : Option (List ℕ)) → IsBadLine cs line rest → [] ≢ line
-not_empty cs line rest bad same =
+some_bytes : (cs : List Command) (line : List ℕ) (rest : Option (List ℕ)) → IsBadLine cs line rest → 0 < length line
+some_bytes cs line rest bad =
     elim bad.cut [
-      | by_lf text one_line short is_text ↦ omega (arith, ap length (same ∙ is_text), length-append text (10 ∷ []))
-      | by_end one_line some short ends ↦ omega (arith, ap length same, some)
-      | cut_off one_line long ↦ omega (arith, ap length same, long)
+      | by_lf text one_line short is_text ↦ omega (arith, ap length is_text, length-append text (10 ∷ []))
+      | by_end one_line some short ends ↦ some
+      | cut_off one_line long ↦ omega (arith, long)
     ]
+
+not_empty : (cs : List Command) (line : List ℕ) (rest : Option (List ℕ)) → IsBadLine cs line rest → [] ≢ line
+not_empty cs line rest bad same = omega (arith, ap length same, some_bytes cs line rest bad)
 
 pub one_reading : (left rest : List ℕ) (a b : ScriptRead) → IsAnswered a → IsAnswered b
     → ReadsScript (Some left) a (Some rest) → ReadsScript (Some left) b (Some rest) → a ≡ b
@@ -133,3 +136,53 @@ one_reading left rest (read.Fault number kind) read.ReadFault _ never _ _ = absu
 one_reading left rest (read.Fault number kind) read.Memory _ never _ _ = absurd never
 one_reading left rest read.ReadFault b never _ _ _ = absurd never
 one_reading left rest read.Memory b never _ _ _ = absurd never
+
+-- WHAT IS A SCRIPT IS READ. Bytes that go on with a bad line don't go on with a command that may come
+lf_in_front : (line after front tail : List ℕ) → IsOneLine line → length front < length line → front ++ 10 ∷ tail ≢ line ++ after
+lf_in_front line after front tail one_line within same =
+    one_line (length front) 0 within
+    (sym (get_or_append_left line after 0 (length front) within) ∙ ap (λ l. get_or l (length front) 0) (sym same) ∙ get_or_at front 10 tail 0 (length front) refl)
+
+bad_begins : (before : List Command) (c : Command) (line tail after : List ℕ) → IsScript before → IsCommand c → MayFollow before c
+    → IsBadLine before line (Some after) → command_text c ++ tail ≢ line ++ after
+bad_begins before c line tail after script is may bad same =
+    let regrouped : command_line c ++ 10 ∷ tail ≡ line ++ after = sym (append_assoc (command_line c) (10 ∷ []) tail) ∙ same in
+    elim bad.cut [
+      | by_lf text one_line short is_text ↦
+          let cut : line ++ after ≡ text ++ 10 ∷ after = ap (λ l. l ++ after) is_text ∙ append_assoc text (10 ∷ []) after in
+          let lines = cut_at_lf (command_line c) text tail after (line_is_one c is.built) one_line (regrouped ∙ cut) in
+          bad.no_command c (script_grows before c script is may) (is_text ∙ ap (λ l. l ++ 10 ∷ []) (sym lines.0))
+      | by_end one_line some short ends ↦
+          let whole : line ++ after ≡ line = ap (λ l. line ++ l) ends ∙ append-nil line in
+          lf_within (command_line c) tail (subst IsOneLine (sym (regrouped ∙ whole)) one_line)
+      | cut_off one_line long ↦ lf_in_front line after (command_line c) tail one_line (omega (arith, long, is.short)) regrouped
+    ]
+
+never_bad : (before cs ds : List Command) (line after : List ℕ) → IsScript before → ComeBehind before cs → ComeBehind before ds
+    → IsBadLine (before ++ ds) line (Some after) → script_text cs ≢ (script_text ds ++ line) ++ after
+never_bad before [] ds line after script come come' bad same =
+    omega (arith, ap length same, length-append (script_text ds ++ line) after, length-append (script_text ds) line, some_bytes _ line (Some after) bad)
+never_bad before (c ∷ cs) [] line after script (is, may, come) come' bad same =
+    bad_begins before c line (script_text cs) after script is may (subst (λ l. IsBadLine l line (Some after)) (append-nil before) bad) same
+never_bad before (c ∷ cs) (d ∷ ds) line after script (is, may, come) (is', may', come') bad same =
+    let left = append_assoc (command_line c) (10 ∷ []) (script_text cs) in
+    let right = ap (λ l. l ++ after) (append_assoc (command_text d) (script_text ds) line) ∙ append_assoc (command_text d) (script_text ds ++ line) after
+    ∙ append_assoc (command_line d) (10 ∷ []) ((script_text ds ++ line) ++ after) in
+    let lines = cut_at_lf (command_line c) (command_line d) (script_text cs) ((script_text ds ++ line) ++ after) (line_is_one c is.built) (line_is_one d is'.built)
+    (sym left ∙ same ∙ right) in
+    let heads : c ≡ d = line_unique c d is is' lines.0 in
+    never_bad (before ++ c ∷ []) cs ds line after (script_grows before c script is may) come
+    (subst (λ e. ComeBehind (before ++ e ∷ []) ds) (sym heads) come')
+    (subst (λ l. IsBadLine l line (Some after)) (sym (append_assoc before (c ∷ []) ds)) (subst (λ e. IsBadLine (before ++ e ∷ ds) line (Some after)) (sym heads) bad))
+    lines.1
+
+pub every_script_is_read : (rest : List ℕ) (cs : List Command) (a : ScriptRead) → IsScript cs → IsAnswered a
+    → ReadsScript (Some (script_text cs)) a (Some rest) → a ≡ read.Commands cs
+every_script_is_read rest cs (read.Commands ds) script _ (script', took, ends) =
+    let texts = taken_is (script_text cs) (script_text ds) rest took in
+    let whole : script_text cs ++ [] ≡ script_text ds ++ [] = append-nil (script_text cs) ∙ texts ∙ ap (λ l. script_text ds ++ l) ends in
+    ap read.Commands (sym (one_script [] cs ds [] [] (Some rest) tt script script' (inl refl) (inl refl) whole).0)
+every_script_is_read rest cs (read.Fault number kind) script _ (not_built, (ds, line, script', numbered, bad, took)) =
+    absurd (never_bad [] cs ds line rest tt script script' bad (taken_is (script_text cs) (script_text ds ++ line) rest took))
+every_script_is_read rest cs read.ReadFault script never _ = absurd never
+every_script_is_read rest cs read.Memory script never _ = absurd never

@@ -52,3 +52,8 @@ IsAnswered read.Memory = ⊥
 abbrev pub OneReading : Type 0
 OneReading = (left rest : List ℕ) (a b : ScriptRead) → IsAnswered a → IsAnswered b
     → ReadsScript (Some left) a (Some rest) → ReadsScript (Some left) b (Some rest) → a ≡ b
+
+-- a source that has a script gives its commands
+abbrev pub EveryScriptIsRead : Type 0
+EveryScriptIsRead = (rest : List ℕ) (cs : List Command) (a : ScriptRead) → IsScript cs → IsAnswered a
+    → ReadsScript (Some (script_text cs)) a (Some rest) → a ≡ read.Commands cs

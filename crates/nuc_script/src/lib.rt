@@ -10,7 +10,7 @@ mod script_read;
 
 pub use command::Command;
 pub use read::read_script;
-pub use script_read::{ScriptRead, is_read_in_one_way};
+pub use script_read::{ScriptRead, is_read_in_one_way, is_read_where_it_is_a_script};
 
 #[cfg(test)]
 mod tests;

@@ -1,4 +1,4 @@
-ghost use Rattle.nuc_script.specs.Reading.{OneReading};
+ghost use Rattle.nuc_script.specs.Reading.{EveryScriptIsRead, OneReading};
 
 use crate::Command;
 use nuc_base::LineFault;
@@ -19,4 +19,9 @@ pub enum ScriptRead {
 /// The bytes that were taken and those that are left decide a script and a fault of its lines.
 pub fn is_read_in_one_way()
     ensures { OneReading }
+{}
+
+/// A source that has a script gives its commands, where no read fails and memory suffices.
+pub fn is_read_where_it_is_a_script()
+    ensures { EveryScriptIsRead }
 {}

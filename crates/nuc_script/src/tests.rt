@@ -128,6 +128,7 @@ fn a_write_has_its_name_and_bytes(rt: HostRuntime) -> Result<(), Fail> {
     };
     assert!(rt; as_written);
     is_read_in_one_way();
+    is_read_where_it_is_a_script();
     Ok(())
 }
 
