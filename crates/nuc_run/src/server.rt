@@ -1,4 +1,4 @@
-ghost use Rattle.std.specs.Prelude.{◌≡◌, ◌<◌, ◌+◌, [], ◌∷◌, ◌++◌, length, IfOk, OnOk};
+ghost use Rattle.std.specs.Prelude.{◌≡◌, ◌<◌, ◌+◌, [], ◌∷◌, ◌++◌, length, IfOk, OnErr, OnOk};
 ghost use Rattle.nuc_base.specs.Kinds.{FitsKind};
 ghost use Rattle.nuc_base.specs.Legal.{LegalPut};
 ghost use Rattle.nuc_base.specs.Trees.{WellFormed};
@@ -66,6 +66,7 @@ impl Server {
         requires legal { LegalPut (tree_of self.old) id.0 node.now }
         ensures entry { OnOk result (self.new ≡ self.old ++ next_entry self.old id.0 node.now ∷ []) }
         ensures revision { IfOk result (λ rev. rev ≡ length self.old + 1) }
+        ensures err { OnErr result (self.new ≡ self.old) }
     {
         let rev = self.revision().checked_add(1).ok_or(AllocError)?;
         let value = Some(node.copy(alloc)?);
