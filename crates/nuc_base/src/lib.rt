@@ -1,7 +1,9 @@
-//! What every layer speaks of: identities, versions, names, places and nodes, and the trait of trees.
+//! What every layer speaks of: identities, versions, names, places and nodes, and the traits of trees and of
+//! equal hashes.
 #![tactic(auto)]
 
 mod fault;
+mod hashes;
 mod name;
 mod name_fault;
 mod node;
@@ -12,6 +14,7 @@ mod tree;
 mod tree_fault;
 
 pub use fault::LineFault;
+pub use hashes::Hashes;
 pub use name::Name;
 pub use name_fault::NameFault;
 pub use node::{Counters, Kind, Node, NodeId, Place, Ver};

@@ -1,5 +1,30 @@
-use crate::{Kind, Name, NameFault, Node, NodeId, Place, Ver};
+ghost use Rattle.std.specs.Prelude.{◌≡◌, ◌==◌, ◌%◌};
+
+use crate::{Hashes, Kind, Name, NameFault, Node, NodeId, Place, Ver};
 use std::test::Fail;
+
+/// Contents that are as their versions' last digits.
+struct LastDigit;
+
+impl Hashes for LastDigit {
+    ghost same = { λ _ a b. a % 10 == b % 10 };
+
+    fn same(&self, a: Ver, b: Ver) -> bool {
+        a.0 % 10 == b.0 % 10
+    }
+}
+
+fn are_same<H: Hashes>(hashes: &H, a: u64, b: u64) -> bool
+    ensures { result ≡ H.same hashes.now a b }
+{
+    hashes.same(Ver(a), Ver(b))
+}
+
+#[test]
+fn hashes_are_asked(rt: HostRuntime) -> Result<(), Fail> {
+    assert!(rt; are_same(&LastDigit, 12, 2) && !are_same(&LastDigit, 12, 21));
+    Ok(())
+}
 
 #[test]
 fn names_are_judged(rt: HostRuntime) -> Result<(), Fail> {
