@@ -1,5 +1,6 @@
 pub mod Answered
 pub mod Chains
+pub mod Children
 pub mod Forms
 pub mod Maps
 pub mod Names

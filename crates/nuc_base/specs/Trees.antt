@@ -1,5 +1,5 @@
-use Rattle.std.specs.Prelude.{◌≡◌, ◌≢◌, ◌⊎◌, ℕ, suc, Some, None}
-use Rattle.std.specs.FinMap.{FinMap, get}
+use Rattle.std.specs.Prelude.{◌≡◌, ◌≢◌, ◌⊎◌, ◌==◌, ℕ, suc, Bool, false, List, filter, Option, Some, None}
+use Rattle.std.specs.FinMap.{FinMap, get, keys}
 use Rattle.std.specs.Ordering.{nat_cmp}
 use Rattle.nuc_base.specs.Kinds.{FitsKind}
 use Rattle.nuc_base.specs.SamePlace.{SamePlace}
@@ -32,6 +32,15 @@ HasChild m x = (y : ℕ) × (n : Node) × (get m y ≡ Some n) × (n.place.paren
 
 abbrev pub NoChild : Nodes → ℕ → Type 0
 NoChild m x = (y : ℕ) (n : Node) → get m y ≡ Some n → n.place.parent.0 ≢ x
+
+-- a node is there, and has this parent
+abbrev pub has_parent : ℕ → Option Node → Bool
+has_parent x None = false
+has_parent x (Some n) = n.place.parent.0 == x
+
+-- who has this parent, in rising order
+abbrev pub children : Nodes → ℕ → List ℕ
+children m x = filter (λ y. has_parent x (get m y)) (keys m)
 
 -- following parents from here on leads to b
 pub data Under (m : Nodes) (b : ℕ) : ℕ → Type 0 where
