@@ -5,7 +5,7 @@ ghost use Rattle.nuc_base.specs.Kinds.{FitsKind};
 ghost use Rattle.nuc_base.specs.Legal.{LegalPut, LegalCut};
 ghost use Rattle.nuc_base.specs.Room.{room_for};
 ghost use Rattle.nuc_base.specs.declared.node.Place.{Place};
-ghost use Rattle.nuc_base.specs.Trees.{Nodes, WellFormed, IsUnder, IsVacant, StandsAt, HasChild, NoChild};
+ghost use Rattle.nuc_base.specs.Trees.{Nodes, WellFormed, IsUnder, IsVacant, StandsAt, HasChild, NoChild, children};
 
 use crate::{CutFault, Kind, Name, Node, NodeId, PutFault};
 use std::alloc::{AllocError, Global};
@@ -36,6 +36,11 @@ pub trait TreeLike {
     fn has_child(&self, id: NodeId) -> bool
         ensures { MatchBool result (HasChild (nodes self.now) id.0) (NoChild (nodes self.now) id.0) };
 
+    /// The child at this position among the children of `id`, from 0, in rising order of identity. The root's are
+    /// those of identity 0.
+    fn child(&self, id: NodeId, i: u64) -> Option<NodeId>
+        ensures { option_map (λ x. x.0) result ≡ slice_get (children (nodes self.now) id.0) i };
+
     /// The identity at this position, from 0, in rising order.
     fn nth(&self, i: u64) -> Option<NodeId>
         ensures { option_map (λ x. x.0) result ≡ slice_get (map.keys (nodes self.now)) i };
@@ -43,6 +48,15 @@ pub trait TreeLike {
     /// The number of nodes; the root isn't one.
     fn len(&self) -> u64
         ensures { result ≡ map.len (nodes self.now) };
+
+    /// Makes room for that many more nodes, which a `put` may then take without memory. Where the room is there
+    /// already, it can't fail; a number too great to be had is want of memory.
+    fn reserve(&mut self, n: u64) -> Result<(), AllocError>
+        ensures ok { OnOk result (n ≤ spare self.new) }
+        ensures nodes { nodes self.new ≡ nodes self.old }
+        ensures tree { WellFormed (nodes self.old) → WellFormed (nodes self.new) }
+        ensures memory { OnErr result (spare self.old < n) }
+        ensures spare { spare self.old ≤ spare self.new };
 
     /// Gives an identity a node, in place of the one that it had. It wants memory only when `spare` is 0.
     fn put(&mut self, id: NodeId, node: Node) -> Result<(), PutFault>

@@ -1,6 +1,6 @@
 -- What the list of entries says of the map that it stands for.
-use Rattle.std.proofs.Common.{◌≡◌, ◌≢◌, ◌<◌, ◌≤◌, ℕ, zero, suc, Bool, true, false, List, [], ◌∷◌, length, map, get_or, set, Option, Some, None, MatchOption, MatchBool, refl, sym, ap, subst, ◌∙◌, inl, inr, arith}
-use Rattle.std.specs.Prelude.{T, ◌&&◌, slice_get, option_map}
+use Rattle.std.proofs.Common.{◌≡◌, ◌≢◌, ◌<◌, ◌≤◌, ℕ, zero, suc, Bool, true, false, List, [], ◌∷◌, length, map, get_or, set, cond, Option, Some, None, MatchOption, MatchBool, refl, sym, ap, subst, ◌∙◌, inl, inr, arith}
+use Rattle.std.specs.Prelude.{T, ◌&&◌, ◌==◌, slice_get, option_map, filter}
 use Rattle.std.specs.List.{insert, remove, All, HoldsAt}
 use Rattle.std.specs.FinMap as map
 use Rattle.std.specs.FinMap.{find, is_sorted, get-from_sorted, get-empty, entries-from_sorted, len-entries}
@@ -9,12 +9,12 @@ use Rattle.std.specs.Ordering.{nat_cmp, is_lt}
 use Rattle.std.specs.declared.cmp.Ordering.TheVariants.{Less}
 use Rattle.std.specs.Cmp.{nat_cmp_is}
 use Rattle.nuc_base.specs.SamePlace.{SamePlace}
-use Rattle.nuc_base.specs.Trees.{Nodes, IsThere, IsVacant, StandsAt, HasChild, NoChild}
+use Rattle.nuc_base.specs.Trees.{Nodes, IsThere, IsVacant, StandsAt, HasChild, NoChild, has_parent, children}
 use Rattle.nuc_base.specs.declared.node.Node.{Node}
 use Rattle.nuc_base.specs.declared.node.NodeId.{NodeId}
 use Rattle.nuc_base.specs.declared.node.Place.{Place}
 use Rattle.nuc_base.proofs.Maps.{same_or_not, same_nodes, get_put_same, get_put_other, get_cut_same, get_cut_other}
-use Rattle.nuc_tree.specs.Entries.{pairs, nodes_of, IsBelow, IsRising, IsFound, IsGap}
+use Rattle.nuc_tree.specs.Entries.{pairs, nodes_of, IsBelow, IsRising, IsFound, IsGap, child_ids}
 use Rattle.nuc_tree.specs.declared.entry.Entry.{Entry}
 use Rattle.nuc_tree.proofs.Search.{below_at}
 use Rattle.nuc_tree.proofs.Rows.{entry_of, find_here, find_later, find_found, find_gap, rising_set, rising_insert, rising_remove, find_set_same, find_set_other, find_insert_same, find_insert_other, find_remove_same, find_remove_other}
@@ -85,6 +85,19 @@ find_there : (x : ℕ) (es : List Entry) (i : ℕ) → IsFound x es i → (n : N
 find_there x [] i f = absurd f
 find_there x (e ∷ es) i f = ((get_or (e ∷ es) i e).node, find_found x (e ∷ es) i e f)
 
+-- a test of the identities that tells the parent keeps the children
+kept_rows : (x : ℕ) (q : ℕ → Bool) (es : List Entry) → All (λ e. q e.id.0 ≡ (e.node.place.parent.0 == x)) es
+    → filter q (map (λ p. p.0) (pairs es)) ≡ child_ids x es
+kept_rows x q [] same = refl
+kept_rows x q (e ∷ es) same =
+    let rest = kept_rows x q es (λ k d lt. same (suc k) d (omega arith)) in
+    let here : q e.id.0 ≡ (e.node.place.parent.0 == x) = same 0 e (omega arith) in
+    elim (e.node.place.parent.0 == x) as (λ b. q e.id.0 ≡ b → cond (q e.id.0) (e.id.0 ∷ filter q (map (λ p. p.0) (pairs es))) (filter q (map (λ p. p.0) (pairs es)))
+    ≡ map (λ d. d.id.0) (cond b (e ∷ filter (λ d. d.node.place.parent.0 == x) es) (filter (λ d. d.node.place.parent.0 == x) es))) [
+      | true ↦ λ t. ap (λ b. cond b (e.id.0 ∷ filter q (map (λ p. p.0) (pairs es))) (filter q (map (λ p. p.0) (pairs es)))) t ∙ ap (λ l. e.id.0 ∷ l) rest
+      | false ↦ λ t. ap (λ b. cond b (e.id.0 ∷ filter q (map (λ p. p.0) (pairs es))) (filter q (map (λ p. p.0) (pairs es)))) t ∙ rest
+    ] here
+
 -- the entries of a tree, as a slice, as the items of its `Vec`, and as the nodes that callers see
 module _ (s items : List Entry) (ns : Nodes) (same : s ≡ items) (view : nodes_of items ≡ ns) (rising : IsRising items) where
   got : (x : ℕ) → map.get ns x ≡ find nat_cmp x (pairs items)
@@ -107,6 +120,13 @@ module _ (s items : List Entry) (ns : Nodes) (same : s ≡ items) (view : nodes_
 
   pub nth_is : (i : ℕ) → slice_get (map.keys ns) i ≡ option_map (λ e. e.id.0) (slice_get s i)
   nth_is i = ap (λ es. slice_get (map (λ p. p.0) es) i) entries_are ∙ nth_pair items i ∙ ap (λ l. option_map (λ e. e.id.0) (slice_get l i)) (sym same)
+
+  pub children_are : (x : ℕ) → children ns x ≡ child_ids x s
+  children_are x =
+      ap (λ es. filter (λ y. has_parent x (map.get ns y)) (map (λ p. p.0) es)) entries_are
+      ∙ kept_rows x (λ y. has_parent x (map.get ns y)) items
+      (λ k d lt. ap (has_parent x) (got (get_or items k d).id.0 ∙ find_found _ items k d (found_index items k d rising lt)))
+      ∙ ap (child_ids x) (sym same)
 
   all_nodes : (Q : ℕ → Node → Type 0) → All (λ e. Q e.id.0 e.node) s → (x : ℕ) (n : Node) → map.get ns x ≡ Some n → Q x n
   all_nodes Q all x n e = find_all Q items (subst (λ l. All (λ e. Q e.id.0 e.node) l) same all) x n (sym (got x) ∙ e)

@@ -1,5 +1,5 @@
 -- The list of entries in order of identity.
-use Rattle.std.specs.Prelude.{◌≡◌, ◌<◌, ℕ, zero, suc, List, [], ◌∷◌, map}
+use Rattle.std.specs.Prelude.{◌≡◌, ◌<◌, ◌==◌, ℕ, zero, suc, List, [], ◌∷◌, map, filter}
 use Rattle.std.specs.FinMap.{from_sorted}
 use Rattle.nuc_base.specs.Trees.{Nodes}
 use Rattle.nuc_base.specs.declared.node.Node.{Node}
@@ -32,3 +32,7 @@ abbrev pub IsGap : ℕ → List Entry → ℕ → Type 0
 IsGap x [] i = i ≡ 0
 IsGap x (e ∷ es) zero = x < e.id.0
 IsGap x (e ∷ es) (suc i) = (e.id.0 < x) × IsGap x es i
+
+-- the identities of those with this parent, in the list's order
+abbrev pub child_ids : ℕ → List Entry → List ℕ
+child_ids x es = map (λ e. e.id.0) (filter (λ e. e.node.place.parent.0 == x) es)

@@ -1,8 +1,8 @@
-ghost use Rattle.std.specs.Prelude.{◌≡◌, ◌≢◌, ◌<◌, ◌≤◌, ℕ, length, MatchBool, MatchOption, MatchResult};
+ghost use Rattle.std.specs.Prelude.{◌≡◌, ◌≢◌, ◌<◌, ◌≤◌, ℕ, length, option_map, slice_get, MatchBool, MatchOption, MatchResult};
 ghost use Rattle.std.specs.List.{All, HoldsAt};
 ghost use Rattle.nuc_base.specs.SamePlace.{SamePlace};
 ghost use Rattle.nuc_base.specs.declared.node.Place.{Place};
-ghost use Rattle.nuc_tree.specs.Entries.{IsRising, IsFound, IsGap};
+ghost use Rattle.nuc_tree.specs.Entries.{IsRising, IsFound, IsGap, child_ids};
 
 use nuc_base::{Name, Node, NodeId};
 
@@ -45,4 +45,20 @@ pub fn has_parent(entries: &[Entry], parent: NodeId) -> bool
         }
     }
     false
+}
+
+/// The entry at this position among those with this parent.
+pub fn child_at(entries: &[Entry], parent: NodeId, i: u64) -> Option<NodeId>
+    ensures { option_map (λ x. x.0) result ≡ slice_get (child_ids parent.0 entries.now) i }
+{
+    let mut before = i;
+    for entry in entries {
+        if entry.node.place.parent == parent {
+            if before == 0 {
+                return Some(entry.id);
+            }
+            before -= 1;
+        }
+    }
+    None
 }

@@ -37,6 +37,7 @@ fn puts_cuts_and_looks(rt: HostRuntime) -> Result<(), Fail> {
         (1, 0, 1, b"x".as_slice(), Err(PutFault::Cycle)),
         (3, 8, 2, b"c".as_slice(), Ok(())),
         (1, 0, 0, b"a".as_slice(), Ok(())),
+        (4, 5, 0, b"d".as_slice(), Ok(())),
     ] {
         assert!(rt; id > 0);
         let node = node(rt.alloc(), parent, name, ver)?;
@@ -44,16 +45,18 @@ fn puts_cuts_and_looks(rt: HostRuntime) -> Result<(), Fail> {
         assert_eq!(rt; tree.put(NodeId(id), node), want);
     }
     looks(&rt, rt.alloc(), &tree)?;
+    children(&rt, &tree)?;
+    reserves(&rt, &mut tree)?;
     cuts(&rt, &mut tree)
 }
 
-/// `/a` is 1, `/a/b` is 2, `/a/b/c` is 3.
+/// `/a` is 1, `/a/b` is 2, `/a/b/c` is 3, `/d` is 4.
 fn looks(rt: &impl Abort, alloc: Global, tree: &Tree) -> Result<(), Fail> {
-    assert_eq!(rt; tree.len(), 3);
-    let order = [tree.nth(0), tree.nth(1), tree.nth(2), tree.nth(3)];
+    assert_eq!(rt; tree.len(), 4);
+    let order = [tree.nth(0), tree.nth(2), tree.nth(3), tree.nth(4)];
     assert_eq!(rt;
         order,
-        [Some(NodeId(1)), Some(NodeId(2)), Some(NodeId(3)), None]
+        [Some(NodeId(1)), Some(NodeId(3)), Some(NodeId(4)), None]
     );
     let name = Name::new(alloc, b"c")?;
     assert_eq!(rt; tree.at(NodeId(2), &name), Some(NodeId(3)));
@@ -66,6 +69,28 @@ fn looks(rt: &impl Abort, alloc: Global, tree: &Tree) -> Result<(), Fail> {
     Ok(())
 }
 
+fn children(rt: &impl Abort, tree: &Tree) -> Result<(), Fail> {
+    for (id, i, want) in [
+        (0, 0, Some(NodeId(1))),
+        (0, 1, Some(NodeId(4))),
+        (0, 2, None),
+        (1, 0, Some(NodeId(2))),
+        (2, 0, Some(NodeId(3))),
+        (3, 0, None),
+        (0, u64::MAX, None),
+    ] {
+        assert_eq!(rt; tree.child(NodeId(id), i), want);
+    }
+    Ok(())
+}
+
+fn reserves(rt: &impl Abort, tree: &mut Tree) -> Result<(), Fail> {
+    tree.reserve(9)?;
+    assert!(rt; tree.reserve(u64::MAX).is_err());
+    assert_eq!(rt; tree.len(), 4);
+    Ok(())
+}
+
 fn cuts(rt: &impl Abort, tree: &mut Tree) -> Result<(), Fail> {
     for (id, want) in [
         (2, Err(CutFault::NotEmpty)),
@@ -73,6 +98,7 @@ fn cuts(rt: &impl Abort, tree: &mut Tree) -> Result<(), Fail> {
         (3, Ok(Ver(8))),
         (2, Ok(Ver(0))),
         (1, Ok(Ver(0))),
+        (4, Ok(Ver(5))),
         (1, Err(CutFault::Absent)),
     ] {
         assert_eq!(rt; tree.cut(NodeId(id)).map(|node| node.ver), want);

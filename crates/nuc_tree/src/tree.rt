@@ -2,7 +2,7 @@ ghost use Rattle.std.specs.Prelude.{◌≡◌};
 ghost use Rattle.std.specs.FinMap as map;
 ghost use Rattle.nuc_base.specs.Trees.{WellFormed};
 
-use crate::entry::{Entry, has_parent, position, standing_at};
+use crate::entry::{Entry, child_at, has_parent, position, standing_at};
 use nuc_base::{CutFault, Name, Node, NodeId, PutFault, TreeLike};
 use std::alloc::{AllocError, Global};
 use std::marker::Model;
@@ -64,6 +64,10 @@ impl TreeLike for Tree {
         has_parent(&self.entries, id)
     }
 
+    fn child(&self, id: NodeId, i: u64) -> Option<NodeId> {
+        child_at(&self.entries, id, i)
+    }
+
     fn nth(&self, i: u64) -> Option<NodeId> {
         match self.entries.get(i as usize) {
             Some(entry) => Some(entry.id),
@@ -73,6 +77,10 @@ impl TreeLike for Tree {
 
     fn len(&self) -> u64 {
         self.entries.len() as u64
+    }
+
+    fn reserve(&mut self, n: u64) -> Result<(), AllocError> {
+        self.entries.reserve(n as usize)
     }
 
     fn put(&mut self, id: NodeId, node: Node) -> Result<(), PutFault> {
