@@ -1,6 +1,7 @@
 pub mod Alike
 pub mod Answered
 pub mod Chains
+pub mod Commute
 pub mod Depths
 pub mod Forms
 pub mod Maps
