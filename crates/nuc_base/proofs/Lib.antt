@@ -7,5 +7,7 @@ pub mod Forms
 pub mod Maps
 pub mod Names
 pub mod Order
+pub mod Orders
 pub mod Places
+pub mod Ready
 pub mod Reasons

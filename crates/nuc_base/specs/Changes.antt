@@ -1,5 +1,5 @@
 -- What changes make of a tree, which are legal, and which don't meet.
-use Rattle.std.specs.Prelude.{◌≡◌, ◌≢◌, ◌<◌, ℕ, Option, Some, None, List, [], ◌∷◌, Contains, AllPairs}
+use Rattle.std.specs.Prelude.{◌≡◌, ◌≢◌, ℕ, Option, Some, None}
 use Rattle.std.specs.FinMap.{get, insert, remove}
 use Rattle.nuc_base.specs.Kinds.{FitsKind}
 use Rattle.nuc_base.specs.Legal.{SameKind, LegalPut, LegalCut}
@@ -61,32 +61,3 @@ pub record Apart (m : Nodes) (x : ℕ) (c : Change) (y : ℕ) (d : Change) : Typ
   pub places : OtherPlaces c d
   pub first : Spares m x c d
   pub second : Spares m y d c
-
--- changes of one tree, by membership: C x c says that x has the change c
-pub record AllReady (m : Nodes) (C : ℕ → Change → Type 0) : Type 0 where
-  pub below : (x : ℕ) (c : Change) → C x c → 0 < x
-  pub fits : (x : ℕ) (c : Change) → C x c → FitsChange c
-  pub legal : (x : ℕ) (c : Change) → C x c → IsLegal m x c
-  pub apart : (x y : ℕ) (c d : Change) → C x c → C y d → x ≢ y → Apart m x c y d
-
--- the changes of all but x
-abbrev pub Without : (ℕ → Change → Type 0) → ℕ → ℕ → Change → Type 0
-Without C x y d = C y d × (y ≢ x)
-
--- the changes of a list
-abbrev pub OneOf : List (ℕ × Change) → ℕ → Change → Type 0
-OneOf cs x c = Contains cs (x, c)
-
--- no identity has two changes
-abbrev pub NoneTwice : List (ℕ × Change) → Type 0
-NoneTwice cs = AllPairs (λ p q. p.0 ≢ q.0) cs
-
--- the tree after the changes of a list, one after another
-abbrev pub all_changed : Nodes → List (ℕ × Change) → Nodes
-all_changed m [] = m
-all_changed m (p ∷ cs) = all_changed (changed m p.0 p.1) cs
-
--- each change of a list is legal in its turn
-abbrev pub LegalInTurn : Nodes → List (ℕ × Change) → Type 0
-LegalInTurn m [] = Unit {0}
-LegalInTurn m (p ∷ cs) = IsLegal m p.0 p.1 × LegalInTurn (changed m p.0 p.1) cs

@@ -3,6 +3,7 @@
 
 mod change;
 mod fault;
+mod laws;
 mod name;
 mod name_fault;
 mod node;
@@ -14,6 +15,7 @@ mod tree_fault;
 
 pub use change::Change;
 pub use fault::LineFault;
+pub use laws::{either_order, every_order, legal_keeps_form};
 pub use name::Name;
 pub use name_fault::NameFault;
 pub use node::{Counters, Kind, Node, NodeId, Place, Ver};
