@@ -4,10 +4,11 @@ pub mod Chains
 pub mod Commute
 pub mod Depths
 pub mod Forms
+pub mod InTurn
 pub mod Maps
 pub mod Names
 pub mod Order
-pub mod Orders
 pub mod Places
 pub mod Ready
 pub mod Reasons
+pub mod Search

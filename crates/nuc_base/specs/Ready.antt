@@ -4,7 +4,7 @@ use Rattle.nuc_base.specs.Changes.{changed, IsLegal, FitsChange, Apart}
 use Rattle.nuc_base.specs.Trees.{Nodes}
 use Rattle.nuc_base.specs.declared.change.Change.{Change}
 
--- each change fits and is legal, and those of two identities are apart; which they are, is said by membership: C x c where x has the change c
+-- each change of a set is legal and fits, and those of two identities are apart; C x c says that x has the change c
 pub record AllReady (m : Nodes) (C : ℕ → Change → Type 0) : Type 0 where
   pub below : (x : ℕ) (c : Change) → C x c → 0 < x
   pub fits : (x : ℕ) (c : Change) → C x c → FitsChange c

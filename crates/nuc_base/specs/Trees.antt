@@ -1,4 +1,4 @@
-use Rattle.std.specs.Prelude.{◌≡◌, ◌≢◌, ◌⊎◌, ℕ, suc, Some, None}
+use Rattle.std.specs.Prelude.{◌≡◌, ◌≢◌, ◌⊎◌, ◌<◌, ◌≤◌, ℕ, suc, Some, None}
 use Rattle.std.specs.FinMap.{FinMap, get}
 use Rattle.std.specs.Ordering.{nat_cmp}
 use Rattle.nuc_base.specs.Kinds.{FitsKind}
@@ -67,3 +67,7 @@ OneKind m k = (x : ℕ) (n h : Node) → get m x ≡ Some n → get k x ≡ Some
 -- q, and all that is above it in m, has the same parent in k
 abbrev pub Alike : Nodes → Nodes → ℕ → Type 0
 Alike m k q = (a : ℕ) (n : Node) → IsUnder m q a → get m a ≡ Some n → (h : Node) × (get k a ≡ Some h) × (h.place.parent.0 ≡ n.place.parent.0)
+
+-- x stands less deep than y, or as deep and its number isn't the greater
+abbrev pub Precedes : Nodes → ℕ → ℕ → Type 0
+Precedes m x y = (d e : ℕ) → Steps m 0 x d → Steps m 0 y e → (d < e) ⊎ ((d ≡ e) × (x ≤ y))

@@ -1,4 +1,4 @@
-use Rattle.nuc_base.proofs.Orders.{every_order}
+use Rattle.nuc_base.proofs.InTurn.{every_order}
 use Rattle.nuc_base.proofs.laws.every_order.Goals as goal
 
 pub returns : goal.returns
