@@ -11,4 +11,5 @@ pub mod Order
 pub mod Places
 pub mod Ready
 pub mod Reasons
+pub mod Renamed
 pub mod Search
