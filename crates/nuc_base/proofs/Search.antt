@@ -2,13 +2,11 @@
 use Rattle.std.proofs.Common.{◌≡◌, ◌<◌, ◌≤◌, ◌+◌, ℕ, zero, suc, Some, sym, subst, inl, inr, arith}
 use Rattle.std.proofs.lemmas.Bool.{cases_lt}
 use Rattle.std.specs.FinMap.{get, len}
-use Rattle.nuc_base.specs.Trees.{Nodes, IsThere, IsFolder, Steps, Above, Precedes, WellFormed}
-use Rattle.nuc_base.specs.Trees.Steps.{done, step}
+use Rattle.nuc_base.specs.Trees.{Nodes, IsThere, Steps, Precedes, WellFormed}
+use Rattle.nuc_base.specs.Trees.Steps.{step}
 use Rattle.nuc_base.specs.declared.node.Node.{Node}
-use Rattle.nuc_base.proofs.Chains.{short_chain, under_of_steps}
-use Rattle.nuc_base.proofs.Depths.{depth_of, depth_above, steps_unique, above_in}
+use Rattle.nuc_base.proofs.Depths.{depth_of, one_depth, short_depth}
 
--- where the least by a key leads to a contradiction
 no_least_below : (P : ℕ → Type 0) (key : ℕ → ℕ) → ((x : ℕ) → P x → ((y : ℕ) → P y → key x ≤ key y) → ⊥) → (bound x : ℕ) → key x < bound → ¬ (P x)
 no_least_below P key least zero x below p = absurd (omega (arith, below))
 no_least_below P key least (suc bound) x below p = least x p (λ y q. elim (cases_lt (key y) (key x)) [
@@ -16,69 +14,48 @@ no_least_below P key least (suc bound) x below p = least x p (λ y q. elim (case
   | inr no_less ↦ no_less
 ])
 
+-- where the least by a key leads to a contradiction
 pub no_least : (P : ℕ → Type 0) (key : ℕ → ℕ) → ((x : ℕ) → P x → ((y : ℕ) → P y → key x ≤ key y) → ⊥) → (x : ℕ) → ¬ (P x)
 no_least P key least x = no_least_below P key least (suc (key x)) x (omega arith)
 
--- no chain to the root is longer than the number of nodes
-pub short_depth : (m : Nodes) (x d : ℕ) → WellFormed m → Steps m 0 x d → d ≤ len m
-short_depth m x d form s =
-    let short = short_chain m 0 x (under_of_steps m 0 x d s) in
-    let same : d ≡ short.0 = steps_unique m 0 0 form.no_root form.no_root x d short.0 s short.1 in
-    let few = short.2 in
-    omega (arith, same, few)
-
-pub folder_depth : (m : Nodes) (q : ℕ) → WellFormed m → IsFolder m q → (d : ℕ) × Steps m 0 q d
-folder_depth m q form (inl root) = (0, subst (λ z. Steps m 0 z 0) (sym root) done)
-folder_depth m q form (inr (n, e, is)) = let d = depth_of m q n form e in (d.0, d.1)
-
--- nothing precedes what is above it
-pub above_first : (m : Nodes) (a x : ℕ) → WellFormed m → Above m a x → ¬ (Precedes m x a)
-above_first m a x form above first =
-    let deep = depth_of m x above.0 form above.1 in
-    let less = folder_depth m a form (above_in m a x form above) in
-    let rises = depth_above m a x deep.0 less.0 form above deep.1 less.1 in
-    elim (first deep.0 less.0 deep.1 less.1) [
-      | inl shorter ↦ absurd (omega (arith, rises, shorter))
-      | inr (same, least) ↦ absurd (omega (arith, rises, same))
-    ]
-
-module _ (m : Nodes) (P : ℕ → Type 0) (form : WellFormed m) (first : (x : ℕ) → P x → ((y : ℕ) → P y → Precedes m x y) → ⊥) where
-  -- the two that are compared, by their depths
-  compared : (x y d e : ℕ) → Steps m 0 x d → Steps m 0 y e → (e < d → ⊥) → (e ≡ d → y < x → ⊥) → Precedes m x y
-  compared x y d e s t not_less not_before j k u v =
-      let same : j ≡ d = steps_unique m 0 0 form.no_root form.no_root x j d u s in
-      let too : k ≡ e = steps_unique m 0 0 form.no_root form.no_root y k e v t in
-      elim (cases_lt d e) [
-        | inl less ↦ inl (omega (arith, same, too, less))
-        | inr no_less ↦ elim (cases_lt e d) [
-          | inl less ↦ absurd (not_less less)
-          | inr no_more ↦ elim (cases_lt y x) [
-            | inl before ↦ absurd (not_before (omega (arith, no_less, no_more)) before)
-            | inr after ↦ inr (omega (arith, same, too, no_less, no_more), after)
-          ]
+-- x precedes y, where y stands neither less deep nor as deep with a smaller number
+precedes : (m : Nodes) (x y d e : ℕ) → WellFormed m → Steps m 0 x d → Steps m 0 y e → (e < d → ⊥) → (e ≡ d → y < x → ⊥) → Precedes m x y
+precedes m x y d e form s t not_less not_before j k u v =
+    let same : j ≡ d = one_depth m x j d form u s in
+    let too : k ≡ e = one_depth m y k e form v t in
+    elim (cases_lt d e) [
+      | inl less ↦ inl (omega (arith, same, too, less))
+      | inr no_less ↦ elim (cases_lt e d) [
+        | inl less ↦ absurd (not_less less)
+        | inr no_more ↦ elim (cases_lt y x) [
+          | inl before ↦ absurd (not_before (omega (arith, no_less, no_more)) before)
+          | inr after ↦ inr (omega (arith, same, too, no_less, no_more), after)
         ]
       ]
+    ]
 
-  no_first_at : (there : (x : ℕ) → P x → IsThere m x) (d : ℕ) → ((y e : ℕ) → Steps m 0 y e → e < d → ¬ (P y))
+module _ (m : Nodes) (P : ℕ → Type 0) (form : WellFormed m) (there : (x : ℕ) → P x → IsThere m x)
+    (first : (x : ℕ) → P x → ((y : ℕ) → P y → Precedes m x y) → ⊥) where
+  no_first_at : (d : ℕ) → ((y e : ℕ) → Steps m 0 y e → e < d → ¬ (P y))
       → (bound x : ℕ) → x < bound → Steps m 0 x d → ¬ (P x)
-  no_first_at there d higher zero x below s p = absurd (omega (arith, below))
-  no_first_at there d higher (suc bound) x below s p = first x p (λ y q.
+  no_first_at d higher zero x below s p = absurd (omega (arith, below))
+  no_first_at d higher (suc bound) x below s p = first x p (λ y q.
       let node = there y q in
       let deep = depth_of m y node.0 form node.1 in
-      compared x y d deep.0 s deep.1 (λ less. higher y deep.0 deep.1 less q)
-      (λ same before. no_first_at there d higher bound y (omega (arith, before, below)) (subst (λ z. Steps m 0 y z) same deep.1) q))
+      precedes m x y d deep.0 form s deep.1 (λ less. higher y deep.0 deep.1 less q)
+      (λ same before. no_first_at d higher bound y (omega (arith, before, below)) (subst (λ z. Steps m 0 y z) same deep.1) q))
 
-  no_first_within : (there : (x : ℕ) → P x → IsThere m x) (bound x d : ℕ) → Steps m 0 x d → d < bound → ¬ (P x)
-  no_first_within there zero x d s below p = absurd (omega (arith, below))
-  no_first_within there (suc bound) x d s below p = no_first_at there d
-      (λ y e t less. no_first_within there bound y e t (omega (arith, less, below))) (suc x) x (omega arith) s p
+  no_first_within : (bound x d : ℕ) → Steps m 0 x d → d < bound → ¬ (P x)
+  no_first_within zero x d s below p = absurd (omega (arith, below))
+  no_first_within (suc bound) x d s below p = no_first_at d
+      (λ y e t less. no_first_within bound y e t (omega (arith, less, below))) (suc x) x (omega arith) s p
 
   -- where the first, by its depth and then by its number, leads to a contradiction
-  pub no_first : ((x : ℕ) → P x → IsThere m x) → (x : ℕ) → ¬ (P x)
-  no_first there x p =
+  pub no_first : (x : ℕ) → ¬ (P x)
+  no_first x p =
       let node = there x p in
       let deep = depth_of m x node.0 form node.1 in
-      no_first_within there (suc deep.0) x deep.0 deep.1 (omega arith) p
+      no_first_within (suc deep.0) x deep.0 deep.1 (omega arith) p
 
 module _ (m : Nodes) (P : ℕ → Type 0) (form : WellFormed m)
     (lowest : (x : ℕ) (n : Node) → get m x ≡ Some n → P x → ((y : ℕ) (k : Node) → get m y ≡ Some k → k.place.parent.0 ≡ x → ¬ (P y)) → ⊥) where
