@@ -12,7 +12,7 @@ use Rattle.nuc_base.specs.Trees.{Nodes, WellFormed}
 use Rattle.nuc_base.specs.declared.change.Change.{Change}
 use Rattle.nuc_base.specs.declared.change.Change.TheVariants.{Keep}
 use Rattle.nuc_base.proofs.Maps.{same_or_not, same_nodes}
-use Rattle.nuc_base.proofs.Commute.{get_changed_at, get_changed_other, tree_after}
+use Rattle.nuc_base.proofs.Changed.{get_changed_at, get_changed_other, tree_after}
 use Rattle.nuc_base.proofs.Ready.{ready_after, ready_fewer}
 
 one_first : (p : ℕ × Change) (cs : List (ℕ × Change)) → OneOf (p ∷ cs) p.0 p.1

@@ -1,6 +1,8 @@
 pub mod Alike
 pub mod Answered
+pub mod Came
 pub mod Chains
+pub mod Changed
 pub mod Commute
 pub mod Depths
 pub mod Forms

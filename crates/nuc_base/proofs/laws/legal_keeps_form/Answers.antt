@@ -1,4 +1,4 @@
-use Rattle.nuc_base.proofs.Commute.{tree_after}
+use Rattle.nuc_base.proofs.Changed.{tree_after}
 use Rattle.nuc_base.proofs.laws.legal_keeps_form.Goals as goal
 
 pub returns : goal.returns
