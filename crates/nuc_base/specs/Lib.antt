@@ -1,9 +1,13 @@
+pub mod Changes
 pub mod Codes
 pub mod Faults
 pub mod Kinds
+pub mod Laws
 pub mod Legal
 pub mod NameFaults
 pub mod Names
+pub mod Ready
+pub mod Renamed
 pub mod Room
 pub mod SamePlace
 pub mod Trees

@@ -1,5 +1,7 @@
 use Rattle.std.specs.Prelude.{◌≡◌, ◌≢◌, ◌⊎◌, ◌==◌, ℕ, suc, Bool, false, List, filter, Option, Some, None}
 use Rattle.std.specs.FinMap.{FinMap, get, keys}
+use Rattle.std.specs.Prelude.{◌≡◌, ◌≢◌, ◌⊎◌, ◌<◌, ◌≤◌, ℕ, suc, Some, None}
+use Rattle.std.specs.FinMap.{FinMap, get}
 use Rattle.std.specs.Ordering.{nat_cmp}
 use Rattle.nuc_base.specs.Kinds.{FitsKind}
 use Rattle.nuc_base.specs.SamePlace.{SamePlace}
@@ -64,3 +66,19 @@ pub record WellFormed (m : Nodes) : Type 0 where
   pub rooted : (x : ℕ) (n : Node) → get m x ≡ Some n → IsUnder m x 0
   pub places : (x y : ℕ) (n k : Node) → get m x ≡ Some n → get m y ≡ Some k → SamePlace n.place k.place → x ≡ y
   pub fits : (x : ℕ) (n : Node) → get m x ≡ Some n → FitsKind n
+
+-- a is the parent of x, or above that; the root is above all that stand in a tree
+abbrev pub Above : Nodes → ℕ → ℕ → Type 0
+Above m a x = (n : Node) × (get m x ≡ Some n) × IsUnder m n.place.parent.0 a
+
+-- what stands in both trees has one kind
+abbrev pub OneKind : Nodes → Nodes → Type 0
+OneKind m k = (x : ℕ) (n h : Node) → get m x ≡ Some n → get k x ≡ Some h → n.kind ≡ h.kind
+
+-- q, and all that is above it in m, has the same parent in k
+abbrev pub Alike : Nodes → Nodes → ℕ → Type 0
+Alike m k q = (a : ℕ) (n : Node) → IsUnder m q a → get m a ≡ Some n → (h : Node) × (get k a ≡ Some h) × (h.place.parent.0 ≡ n.place.parent.0)
+
+-- x stands less deep than y, or as deep and its number isn't the greater
+abbrev pub Precedes : Nodes → ℕ → ℕ → Type 0
+Precedes m x y = (d e : ℕ) → Steps m 0 x d → Steps m 0 y e → (d < e) ⊎ ((d ≡ e) × (x ≤ y))

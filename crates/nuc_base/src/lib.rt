@@ -2,8 +2,10 @@
 //! equal hashes.
 #![tactic(auto)]
 
+mod change;
 mod fault;
 mod hashes;
+mod laws;
 mod name;
 mod name_fault;
 mod node;
@@ -13,8 +15,10 @@ mod tests;
 mod tree;
 mod tree_fault;
 
+pub use change::Change;
 pub use fault::LineFault;
 pub use hashes::Hashes;
+pub use laws::{either_order, every_order, legal_keeps_form};
 pub use name::Name;
 pub use name_fault::NameFault;
 pub use node::{Counters, Kind, Node, NodeId, Place, Ver};

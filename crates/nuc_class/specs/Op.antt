@@ -1,7 +1,7 @@
 use Rattle.std.specs.Prelude.{ℕ, Some, None}
 use Rattle.nuc_base.specs.declared.node.Node.{Node}
 use Rattle.nuc_class.specs.declared.op.Op.{Op}
-use Rattle.nuc_class.specs.declared.op.Change.TheVariants.{Keep, Put}
+use Rattle.nuc_base.specs.declared.change.Change.TheVariants.{Keep, Put}
 use Rattle.nuc_class.specs.declared.op.Verb.TheVariants.{Up}
 use Rattle.nuc_class.specs.declared.op.Effect.TheVariants.{Commit}
 

@@ -5,4 +5,4 @@ mod op;
 #[cfg(test)]
 mod tests;
 
-pub use op::{Change, Effect, Op, Verb};
+pub use op::{Effect, Op, Verb};

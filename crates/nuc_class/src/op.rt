@@ -1,6 +1,6 @@
 ghost use Rattle.std.specs.Prelude.{◌≡◌, IfOk};
 
-use nuc_base::{Node, NodeId};
+use nuc_base::{Change, Node, NodeId};
 use std::alloc::{AllocError, Global};
 
 /// What an operation is for.
@@ -8,13 +8,6 @@ use std::alloc::{AllocError, Global};
 pub enum Verb {
     /// What the folder has goes to the server.
     Up,
-}
-
-/// What an operation does to one tree at its identity.
-#[derive(Debug, Drop)]
-pub enum Change {
-    Keep,
-    Put(Node),
 }
 
 /// Where an operation is carried out.
@@ -33,6 +26,7 @@ pub struct Op {
     pub id: NodeId,
     /// The second identity of an operation that has two, else 0.
     pub other: NodeId,
+    /// What it does at its identity in each of the three trees.
     pub remote: Change,
     pub local: Change,
     pub synced: Change,
@@ -42,17 +36,6 @@ pub struct Op {
     /// The revision that a commit takes for the current one of its identity, 0 for a new one.
     pub base: u64,
     pub effect: Effect,
-}
-
-impl Change {
-    pub fn copy(&self, alloc: Global) -> Result<Change, AllocError>
-        ensures { IfOk result (λ change. change ≡ self.now) }
-    {
-        match self {
-            Change::Keep => Ok(Change::Keep),
-            Change::Put(node) => Ok(Change::Put(node.copy(alloc)?)),
-        }
-    }
 }
 
 impl Op {

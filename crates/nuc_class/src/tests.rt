@@ -1,5 +1,5 @@
-use crate::{Change, Effect, Op, Verb};
-use nuc_base::{Kind, Name, Node, NodeId, Place, Ver};
+use crate::{Effect, Op, Verb};
+use nuc_base::{Change, Kind, Name, Node, NodeId, Place, Ver};
 use std::test::Fail;
 
 #[test]
@@ -29,6 +29,6 @@ fn a_new_file_is_committed(rt: HostRuntime) -> Result<(), Fail> {
 fn version(change: &Change) -> Option<Ver> {
     match change {
         Change::Put(node) => Some(node.ver),
-        Change::Keep => None,
+        Change::Keep | Change::Cut => None,
     }
 }

@@ -22,7 +22,7 @@ use Rattle.nuc_folder.specs.declared.user.UserEdit.TheVariants as edit
 use Rattle.nuc_folder.specs.declared.user.UserReply.{UserReply}
 use Rattle.nuc_folder.specs.declared.user.UserReply.TheVariants as reply
 use Rattle.nuc_class.specs.declared.op.Op.{Op}
-use Rattle.nuc_class.specs.declared.op.Change.TheVariants.{Put}
+use Rattle.nuc_base.specs.declared.change.Change.TheVariants.{Put}
 use Rattle.nuc_run.specs.declared.client.Binding.{Binding}
 use Rattle.nuc_run.specs.declared.entry.Entry.{Entry}
 use Rattle.nuc_run.specs.Good.{IsAmong, AreNamedElse, AreApart, IsBound, IsObserved, AreKept, InStep, Good, IsUpload}

@@ -14,7 +14,7 @@ use Rattle.nuc_step.specs.declared.reply.DoneReply.TheVariants as done
 use Rattle.nuc_run.specs.declared.entry.Entry.{Entry}
 use Rattle.nuc_run.specs.State.{State, Stage, started, taken, Flight}
 use Rattle.nuc_run.specs.Server.{tree_of, tree_after, with_value}
-use Rattle.nuc_class.specs.declared.op.Change.TheVariants.{Put}
+use Rattle.nuc_base.specs.declared.change.Change.TheVariants.{Put}
 use Rattle.nuc_run.specs.Scan.{key_of}
 use Rattle.nuc_run.specs.Step.{with_client, as_planned, flight_of, staged, without, bytes_of_key, read_by, with_started, after_start, next_entry, take_at, taken_by, after_take, news, done_at, done_by, after_done, IsStarted, IsTaken}
 use Rattle.nuc_run.specs.Tasks.{Task, once, steps_of}

@@ -5,8 +5,8 @@ use Rattle.nuc_base.specs.SamePlace.{SameName}
 use Rattle.nuc_base.specs.declared.node.Counters.{Counters}
 use Rattle.nuc_base.specs.declared.node.Node.{Node}
 use Rattle.nuc_base.specs.Trees.{Nodes, WellFormed}
-use Rattle.nuc_class.specs.declared.op.Change.{Change}
-use Rattle.nuc_class.specs.declared.op.Change.TheVariants.{Keep, Put}
+use Rattle.nuc_base.specs.declared.change.Change.{Change}
+use Rattle.nuc_base.specs.declared.change.Change.TheVariants.{Keep, Put, Cut}
 use Rattle.nuc_class.specs.declared.op.Op.{Op}
 use Rattle.nuc_class.specs.Op.{up_of_new}
 use Rattle.nuc_edits.specs.declared.edit.Edit.{Edit}
@@ -96,6 +96,7 @@ IsHere m x = (n : Node) × (tree.get m x ≡ Some n)
 abbrev pub HasPut : Nodes → Nodes → ℕ → Change → Type 0
 HasPut old new x Keep = ⊥
 HasPut old new x (Put n) = new ≡ tree.insert old x n
+HasPut old new x Cut = ⊥
 
 abbrev pub IsPut : Nodes → Nodes → Op → Type 0
 IsPut old new op = HasPut old new op.id.0 op.synced

@@ -6,8 +6,8 @@ use Rattle.nuc_base.specs.declared.node.Node.{Node}
 use Rattle.std.specs.FinMap as tree
 use Rattle.std.specs.Option.{option_map}
 use Rattle.nuc_class.specs.declared.op.Op.{Op}
-use Rattle.nuc_class.specs.declared.op.Change.{Change}
-use Rattle.nuc_class.specs.declared.op.Change.TheVariants.{Put}
+use Rattle.nuc_base.specs.declared.change.Change.{Change}
+use Rattle.nuc_base.specs.declared.change.Change.TheVariants.{Put}
 use Rattle.nuc_folder.specs.Folder.{FolderData}
 use Rattle.nuc_folder.specs.Listing.{item_of, has_key}
 use Rattle.nuc_folder.specs.Write.{edited}

@@ -26,8 +26,8 @@ use crate::legal::put_legal;
 use crate::plan::batch;
 use crate::scan::observe;
 use crate::server::Server;
-use nuc_base::{Counters, Node};
-use nuc_class::{Change, Op};
+use nuc_base::{Change, Counters, Node};
+use nuc_class::Op;
 use nuc_edits::Edits;
 use nuc_folder::{Item, MemFolder, ReadBack, UserEdit, UserReply};
 use nuc_step::{
