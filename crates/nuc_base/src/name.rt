@@ -2,10 +2,11 @@ ghost use Rattle.std.specs.Prelude.{◌≡◌, ◌≢◌, ◌⊎◌, ◌≤◌, 
 ghost use Rattle.std.specs.List.{take_while};
 ghost use Rattle.nuc_base.specs.Names.{IsName, is_plain, good_len};
 ghost use Rattle.nuc_base.specs.NameFaults.{NameFaulty};
-ghost use Rattle.nuc_base.specs.SamePlace.{SameName};
+ghost use Rattle.nuc_base.specs.SamePlace.{SameName, name_order};
 
 use crate::NameFault;
 use std::alloc::{AllocError, Global};
+use std::cmp::Ordering;
 use std::marker::Model;
 use std::str;
 
@@ -60,6 +61,13 @@ impl Name {
         ensures { MatchBool result (SameName self.now other.now) (¬ (SameName self.now other.now)) }
     {
         self.bytes() == other.bytes()
+    }
+
+    /// The order of siblings by their names: `Equal` exactly where the names are the same.
+    pub fn order(&self, other: &Name) -> Ordering
+        ensures { result ≡ name_order self.now other.now }
+    {
+        self.bytes().cmp(other.bytes())
     }
 }
 
