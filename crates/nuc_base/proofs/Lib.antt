@@ -1,5 +1,7 @@
 pub mod Answered
+pub mod Candidates
 pub mod Chains
+pub mod Differ
 pub mod Forms
 pub mod Maps
 pub mod Names

@@ -1,3 +1,4 @@
+pub mod Candidates
 pub mod Codes
 pub mod Faults
 pub mod Kinds

@@ -1,6 +1,6 @@
 -- When two names are one name among siblings, and two places one place, and how siblings are ordered by their names. The
--- meaning of `SameName` and of `name_order` is sealed here: other proofs use the lemmas below, and only those of `Name::same`
--- and `Name::order` the last two.
+-- meaning of `SameName` and of `name_order` is sealed here: other proofs use the lemmas below. The last two tie them to bytes,
+-- for the proofs of `Name::same` and `Name::order` and for the law of the candidates of a free name alone.
 use Rattle.std.specs.Prelude.{◌≡◌, ◌⊎◌, ℕ, Bool, true, false, T, List, MatchBool, refl}
 use Rattle.std.specs.Bool.{Decides}
 use Rattle.std.specs.Cmp.{IsTotalOrder}
@@ -97,12 +97,11 @@ pub same_name-order : (a b : List ℕ) → SameName a b → name_order a b ≡ E
 unfolding name_order SameName
 same_name-order a b s = subst (λ c. slice_cmp nat_cmp a c ≡ Equal) s (tied_itself nat_list_cmp_total a)
 
--- for the proof of `Name::same` alone
+-- to bytes
 pub same_name-equal : (a b : List ℕ) → SameName a b → a ≡ b
 unfolding SameName
 same_name-equal a b s = s
 
--- for the proof of `Name::order` alone
 pub name_order-bytes : (a b : List ℕ) → slice_cmp nat_cmp a b ≡ name_order a b
 unfolding name_order
 name_order-bytes a b = refl

@@ -1,6 +1,7 @@
 //! What every layer speaks of: identities, versions, names, places and nodes, and the trait of trees.
 #![tactic(auto)]
 
+mod copy_name;
 mod fault;
 mod name;
 mod name_fault;
@@ -11,6 +12,7 @@ mod tests;
 mod tree;
 mod tree_fault;
 
+pub use copy_name::candidates_differ;
 pub use fault::LineFault;
 pub use name::Name;
 pub use name_fault::NameFault;
