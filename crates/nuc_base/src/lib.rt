@@ -5,6 +5,8 @@ mod copy_name;
 mod fault;
 mod name;
 mod name_fault;
+#[cfg(test)]
+mod name_tests;
 mod node;
 mod path;
 #[cfg(test)]
