@@ -6,6 +6,9 @@ pub mod Children
 pub mod Changed
 pub mod Commute
 pub mod Depths
+pub mod Candidates
+pub mod Chains
+pub mod Differ
 pub mod Forms
 pub mod InTurn
 pub mod Maps

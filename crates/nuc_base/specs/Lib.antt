@@ -1,4 +1,5 @@
 pub mod Changes
+pub mod Candidates
 pub mod Codes
 pub mod Faults
 pub mod Kinds

@@ -1,10 +1,18 @@
--- When two names are one name among siblings, and two places one place. The meaning of `SameName` is sealed here:
--- other proofs use the lemmas below, and only that of `Name::same` the last one.
+-- When two names are one name among siblings, and two places one place, and how siblings are ordered by their names. The
+-- meaning of `SameName` and of `name_order` is sealed here: other proofs use the lemmas below. The last two tie them to bytes,
+-- for the proofs of `Name::same` and `Name::order` and for the law of the candidates of a free name alone.
 use Rattle.std.specs.Prelude.{◌≡◌, ◌⊎◌, ℕ, Bool, true, false, T, List, MatchBool, refl}
 use Rattle.std.specs.Bool.{Decides}
+use Rattle.std.specs.Cmp.{IsTotalOrder}
+use Rattle.std.specs.Cmp.Lexicographic.{slice_cmp}
+use Rattle.std.specs.FinMap.{nat_cmp-IsAntisymmetric, slice_cmp-IsAntisymmetric}
+use Rattle.std.specs.Ordering.{nat_cmp}
 use Rattle.std.specs.Str.{bytes_eq}
+use Rattle.std.specs.declared.cmp.Ordering.{Ordering}
+use Rattle.std.specs.declared.cmp.Ordering.TheVariants.{Equal}
 use Rattle.std.proofs.Common.{sym, subst, ◌∙◌, inl, inr}
 use Rattle.std.proofs.lemmas.Bool.Decides.{eqb_tells}
+use Rattle.std.proofs.lemmas.Cmp.{nat_list_cmp_total, tied_itself}
 use Rattle.std.proofs.lemmas.Slice.Eq.{bytes_eq-Decides}
 use Rattle.nuc_base.specs.declared.node.Place.{Place}
 
@@ -72,7 +80,28 @@ pub is_same_name-tells : (a b : List ℕ) → MatchBool (is_same_name a b) (Same
 unfolding SameName is_same_name
 is_same_name-tells a b = told (bytes_eq a b) (a ≡ b) (bytes_eq-Decides a b)
 
--- for the proof of `Name::same` alone
+-- the order of names among siblings, today that of their bytes
+pub name_order : List ℕ → List ℕ → Ordering
+name_order a b = slice_cmp nat_cmp a b
+
+pub name_order-total : IsTotalOrder name_order
+unfolding name_order
+name_order-total = nat_list_cmp_total
+
+-- it is `Equal` exactly at one name
+pub name_order-same : (a b : List ℕ) → name_order a b ≡ Equal → SameName a b
+unfolding name_order SameName
+name_order-same a b e = slice_cmp-IsAntisymmetric nat_cmp-IsAntisymmetric a b e
+
+pub same_name-order : (a b : List ℕ) → SameName a b → name_order a b ≡ Equal
+unfolding name_order SameName
+same_name-order a b s = subst (λ c. slice_cmp nat_cmp a c ≡ Equal) s (tied_itself nat_list_cmp_total a)
+
+-- to bytes
 pub same_name-equal : (a b : List ℕ) → SameName a b → a ≡ b
 unfolding SameName
 same_name-equal a b s = s
+
+pub name_order-bytes : (a b : List ℕ) → slice_cmp nat_cmp a b ≡ name_order a b
+unfolding name_order
+name_order-bytes a b = refl

@@ -3,11 +3,14 @@
 #![tactic(auto)]
 
 mod change;
+mod copy_name;
 mod fault;
 mod hashes;
 mod laws;
 mod name;
 mod name_fault;
+#[cfg(test)]
+mod name_tests;
 mod node;
 mod path;
 #[cfg(test)]
@@ -16,6 +19,7 @@ mod tree;
 mod tree_fault;
 
 pub use change::Change;
+pub use copy_name::candidates_differ;
 pub use fault::LineFault;
 pub use hashes::Hashes;
 pub use laws::{either_order, every_order, legal_keeps_form};

@@ -1,16 +1,18 @@
-ghost use Rattle.std.specs.Prelude.{◌≡◌, ◌≢◌, ◌⊎◌, ◌≤◌, [], ◌∷◌, length, IfOk, MatchBool, MatchResult};
+ghost use Rattle.std.specs.Prelude.{◌≡◌, ◌≢◌, ◌⊎◌, ◌<◌, ◌≤◌, [], ◌∷◌, length, IfOk, MatchBool, MatchResult};
 ghost use Rattle.std.specs.List.{take_while};
+ghost use Rattle.nuc_base.specs.Candidates.{candidate};
 ghost use Rattle.nuc_base.specs.Names.{IsName, is_plain, good_len};
 ghost use Rattle.nuc_base.specs.NameFaults.{NameFaulty};
-ghost use Rattle.nuc_base.specs.SamePlace.{SameName};
+ghost use Rattle.nuc_base.specs.SamePlace.{SameName, name_order};
 
-use crate::NameFault;
+use crate::{NameFault, copy_name};
 use std::alloc::{AllocError, Global};
+use std::cmp::Ordering;
 use std::marker::Model;
 use std::str;
 
 /// The most bytes of a name.
-const MAX_LEN: usize = 255;
+pub(crate) const MAX_LEN: usize = 255;
 
 /// The name of a file or folder: 1 to 255 bytes of UTF-8, without `/` and NUL, and neither `.` nor `..`.
 #[derive(Debug, Drop)]
@@ -55,11 +57,27 @@ impl Name {
         Ok(Name { bytes })
     }
 
+    /// The name that is tried for a copy where this name and the candidates of the lower numbers are taken; they count from 1.
+    pub fn conflicted_copy(&self, alloc: Global, number: u64) -> Result<Name, AllocError>
+        requires { 0 < number }
+        ensures { IfOk result (λ n. n ≡ candidate self.now number) }
+    {
+        let bytes = copy_name::candidate(alloc, self.bytes(), number)?;
+        Ok(Name { bytes })
+    }
+
     /// Whether two siblings can't have these two names.
     pub fn same(&self, other: &Name) -> bool
         ensures { MatchBool result (SameName self.now other.now) (¬ (SameName self.now other.now)) }
     {
         self.bytes() == other.bytes()
+    }
+
+    /// The order of siblings by their names: `Equal` exactly where the names are the same.
+    pub fn order(&self, other: &Name) -> Ordering
+        ensures { result ≡ name_order self.now other.now }
+    {
+        self.bytes().cmp(other.bytes())
     }
 }
 
