@@ -1,11 +1,10 @@
-ghost use Rattle.std.specs.Prelude.{◌≡◌, ℕ, ◌+◌, ◌-◌, ◌*◌, ◌<◌, List, [], ◌++◌, length, map, OnOk, OnErr, vec_len, vec_capacity};
+ghost use Rattle.std.specs.Prelude.{◌≡◌, ℕ, ◌+◌, ◌-◌, ◌*◌, ◌<◌, List, [], ◌++◌, length, map, OnOk, vec_len, vec_capacity};
 ghost use Rattle.nuc_hash.specs.Content.{blocks_of, digest_of};
 ghost use Rattle.nuc_hash.specs.Hashing.{HasHashed};
 
 use crate::{BLOCK, Digest};
 use sha2::{Digest as _, Sha256};
 use std::alloc::{AllocError, Global};
-use std::mem;
 
 /// The digests of the blocks that are full, and the hash that runs over the one that isn't.
 #[derive(Drop)]

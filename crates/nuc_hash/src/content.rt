@@ -1,4 +1,4 @@
-ghost use Rattle.std.specs.Prelude.{◌≡◌, ◌≢◌, length, map, slice_get, IfOk, MatchOption};
+ghost use Rattle.std.specs.Prelude.{◌≡◌, ◌≢◌, length, slice_get, IfOk, MatchOption};
 ghost use Rattle.std.specs.Int.{div_ceil};
 ghost use Rattle.std.specs.Option.{option_copied};
 
@@ -27,7 +27,7 @@ impl Model for Content {
     ghost view = { λ c. record { hash = c.hash; size = c.size; blocks = c.blocks } };
 }
 
-ghost use Rattle.nuc_hash.specs.Content.{blocks_of, content_of, digest_of, joined};
+ghost use Rattle.nuc_hash.specs.Content.{content_of, digest_of, joined};
 
 impl Content {
     /// The content of `size` bytes whose blocks have these digests. None where so many bytes have another number of blocks.

@@ -34,6 +34,7 @@ impl Model for Hasher {
 }
 
 impl Hasher {
+    /// No bytes yet, and no memory: `update` takes what it needs.
     pub fn new(alloc: Global) -> Hasher
         ensures { result ≡ [] }
     {
@@ -60,7 +61,7 @@ impl Hasher {
         Ok(())
     }
 
-    /// Needs no memory.
+    /// The content of all bytes. Needs no memory.
     pub fn finish(self) -> Content
         ensures { result ≡ content_of self }
     {
