@@ -27,7 +27,7 @@ impl Model for Content {
     ghost view = { λ c. record { hash = c.hash; size = c.size; blocks = c.blocks } };
 }
 
-ghost use Rattle.nuc_hash.specs.Content.{content_of, digest_of, joined};
+ghost use Rattle.nuc_hash.specs.Content.{EachIsOfItsBlocks, content_of, digest_of, joined};
 
 impl Content {
     /// The content of `size` bytes whose blocks have these digests. None where so many bytes have another number of blocks.
@@ -100,6 +100,11 @@ pub fn content_of(alloc: Global, bytes: &[u8]) -> Result<Content, AllocError>
     hasher.update(bytes)?;
     Ok(hasher.finish())
 }
+
+/// `Content::of` makes every content again, of its size and its blocks.
+pub fn is_of_its_blocks()
+    ensures { EachIsOfItsBlocks }
+{}
 
 /// The SHA-256 of the digests, one after the other: the hash of a content whose blocks have these digests.
 pub fn of_blocks(digests: &[Digest]) -> Digest

@@ -8,7 +8,7 @@ mod filling;
 mod hasher;
 mod taken;
 
-pub use content::{BLOCK, Content, content_of, of_blocks};
+pub use content::{BLOCK, Content, content_of, is_of_its_blocks, of_blocks};
 pub use digest::{Digest, hash_text};
 pub use filling::Filling;
 pub use hasher::Hasher;
