@@ -1,3 +1,4 @@
+pub mod Hashing
 pub mod Joined
 pub mod Pieces
 pub mod Sizes

@@ -1,4 +1,5 @@
-use Rattle.std.specs.Prelude.{ℕ, ◌+◌, ◌-◌, ◌/◌, List, length, map}
+use Rattle.std.specs.Prelude.{◌≡◌, ℕ, ◌+◌, ◌-◌, ◌/◌, List, length, map}
+use Rattle.std.specs.Int.{div_ceil}
 use Rattle.std.specs.List.{flat_map}
 use Rattle.std.specs.Simd.{first_chunks}
 use Rattle.sha2.specs.Sha256.{sha256}
@@ -32,3 +33,11 @@ unfoldable pub content_of : List ℕ → ContentData
 content_of bytes =
     let digests = map digest_of (blocks_of bytes) in
     record { hash = digest_of (joined digests); size = length bytes; blocks = digests }
+
+-- a content has as many blocks as bytes of its size take, and is the one of its size and these blocks' digests
+abbrev pub IsOfItsBlocks : ContentData → Type 0
+IsOfItsBlocks c = (length c.blocks ≡ div_ceil c.size BLOCK)
+    × (c ≡ record { hash = digest_of (joined c.blocks); size = c.size; blocks = c.blocks })
+
+abbrev pub EachIsOfItsBlocks : Type 0
+EachIsOfItsBlocks = (bytes : List ℕ) → IsOfItsBlocks (content_of bytes)

@@ -1,7 +1,8 @@
-ghost use Rattle.std.specs.Prelude.{◌≡◌, length, map, slice_get, IfOk};
+ghost use Rattle.std.specs.Prelude.{◌≡◌, ◌≢◌, length, slice_get, IfOk, MatchOption};
+ghost use Rattle.std.specs.Int.{div_ceil};
 ghost use Rattle.std.specs.Option.{option_copied};
 
-use crate::Digest;
+use crate::{Digest, Hasher};
 use sha2::{Digest as _, Sha256};
 use sqlite_items::Items;
 use std::alloc::{AllocError, Global};
@@ -26,9 +27,33 @@ impl Model for Content {
     ghost view = { λ c. record { hash = c.hash; size = c.size; blocks = c.blocks } };
 }
 
-ghost use Rattle.nuc_hash.specs.Content.{blocks_of, content_of, digest_of, joined};
+ghost use Rattle.nuc_hash.specs.Content.{EachIsOfItsBlocks, content_of, digest_of, joined};
 
 impl Content {
+    /// The content of `size` bytes whose blocks have these digests. None where so many bytes have another number of blocks.
+    pub fn of(size: u64, blocks: Items<Digest>) -> Option<Content>
+        ensures { MatchOption result
+            (length blocks ≢ div_ceil size BLOCK)
+            (λ content. (length blocks ≡ div_ceil size BLOCK)
+            × (content ≡ record { hash = digest_of (joined blocks); size = size; blocks = blocks })) }
+    {
+        if blocks.len() as u64 != size.div_ceil(BLOCK as u64) {
+            return None;
+        }
+        Some(Content::whole(size, blocks))
+    }
+
+    /// The content of so many bytes with these digests, whose number isn't looked at.
+    pub(crate) fn whole(size: u64, blocks: Items<Digest>) -> Content
+        ensures { result ≡ record { hash = digest_of (joined blocks); size = size; blocks = blocks } }
+    {
+        Content {
+            hash: of_blocks(blocks.as_slice()),
+            size,
+            blocks,
+        }
+    }
+
     /// The SHA-256 of the blocks' digests, one after the other. It stands for the content.
     pub fn hash(&self) -> &Digest
         ensures { result.now ≡ self.now.hash }
@@ -71,25 +96,18 @@ impl Content {
 pub fn content_of(alloc: Global, bytes: &[u8]) -> Result<Content, AllocError>
     ensures { IfOk result (λ content. content ≡ content_of bytes.now) }
 {
-    let blocks = block_digests(alloc, bytes)?;
-    Ok(Content {
-        hash: digest_of_all(blocks.as_slice()),
-        size: bytes.len() as u64,
-        blocks,
-    })
+    let mut hasher = Hasher::new(alloc);
+    hasher.update(bytes)?;
+    Ok(hasher.finish())
 }
 
-fn block_digests(alloc: Global, bytes: &[u8]) -> Result<Items<Digest>, AllocError>
-    ensures { IfOk result (λ digests. digests ≡ map digest_of (blocks_of bytes.now)) }
-{
-    let mut digests = Items::new(alloc);
-    for block in bytes.chunks(BLOCK) {
-        digests.push(Digest(Sha256::digest(block)))?;
-    }
-    Ok(digests)
-}
+/// `Content::of` makes every content again, of its size and its blocks.
+pub fn is_of_its_blocks()
+    ensures { EachIsOfItsBlocks }
+{}
 
-fn digest_of_all(digests: &[Digest]) -> Digest
+/// The SHA-256 of the digests, one after the other: the hash of a content whose blocks have these digests.
+pub fn of_blocks(digests: &[Digest]) -> Digest
     ensures { result ≡ digest_of (joined digests.now) }
 {
     let mut hasher = Sha256::new();

@@ -2,7 +2,7 @@ use Rattle.std.proofs.Common.{[], take, ap, ◌≡◌}
 use Rattle.std.proofs.lemmas.List.{take_all}
 use Rattle.nuc_hash.specs.Content.{digest_of, joined}
 use Rattle.nuc_hash.proofs.Joined.{joined-take-more}
-use Rattle.nuc_hash.proofs.content.digest_of_all.Goals as goal
+use Rattle.nuc_hash.proofs.content.of_blocks.Goals as goal
 
 pub loop-digest-init : goal.loop-digest-init
 unfolding joined

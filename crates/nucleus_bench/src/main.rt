@@ -1,0 +1,64 @@
+//! The program `nucleus_bench`: commands that each do one kind of work, for scripts that measure it. It prints what the
+//! work came to, and no time.
+#![tactic(auto)]
+
+mod fault;
+mod hashing;
+
+use fault::Fault;
+use std::alloc::Global;
+use std::process::ExitCode;
+use std::rt::Env;
+
+fn main(rt: HostRuntime) -> ExitCode {
+    let printed = match answer(&rt, rt.alloc()) {
+        Ok(text) => println!(rt; "{text}"),
+        Err(fault) => {
+            let _ = eprintln!(rt; "nucleus_bench: {fault}");
+            return ExitCode::FAILURE;
+        }
+    };
+    match printed {
+        Ok(()) => ExitCode::SUCCESS,
+        Err(_) => ExitCode::FAILURE,
+    }
+}
+
+/// What the words behind the program's name ask for.
+fn answer(rt: &(impl Env + AllocGlobal), alloc: Global) -> Result<String, Fault> {
+    let mut words = Vec::new(alloc);
+    for word in std::env::args(rt)?.skip(1) {
+        words.push(word)?;
+    }
+    run(alloc, &words)
+}
+
+fn run(alloc: Global, words: &[String]) -> Result<String, Fault> {
+    match words {
+        [] => small(alloc),
+        [command, size, piece] => hash_by(alloc, command.as_str(), number(size)?, number(piece)?),
+        _ => Err(Fault::Usage),
+    }
+}
+
+fn hash_by(alloc: Global, command: &str, size: u64, piece: u64) -> Result<String, Fault> {
+    if piece == 0 {
+        return Err(Fault::Usage);
+    }
+    match command {
+        "hash" => hashing::hash(alloc, size, piece as usize),
+        "sha2" => hashing::sha2(alloc, size, piece as usize),
+        _ => Err(Fault::Usage),
+    }
+}
+
+fn number(word: &String) -> Result<u64, Fault> {
+    word.as_str().parse().map_err(|_| Fault::Usage)
+}
+
+/// A little of each kind of work, to see that all of it runs.
+fn small(alloc: Global) -> Result<String, Fault> {
+    let hash = hashing::hash(alloc, 1_000, 300)?;
+    let sha2 = hashing::sha2(alloc, 1_000, 300)?;
+    Ok(format!(in alloc; "hash {hash}\nsha2 {sha2}")?)
+}
