@@ -1,5 +1,5 @@
 -- What follows for whole logs: each point is sound, and each plan says exactly whether the three trees are equal.
-use Rattle.std.proofs.Common.{◌≡◌, ◌≤◌, ℕ, zero, suc, List, [], ◌∷◌, ◌++◌, length, take, Option, None, Some, refl, sym, ◌∙◌, ap, subst, inl, inr, arith}
+use Rattle.std.proofs.Common.{◌≡◌, ◌⊎◌, ◌≤◌, ℕ, zero, suc, List, [], ◌∷◌, ◌++◌, length, take, Option, None, Some, refl, sym, ◌∙◌, ap, subst, inl, inr, arith}
 use Rattle.std.proofs.lemmas.List.{take_all}
 use Rattle.std.specs.Prelude.{All}
 use Rattle.std.specs.List.{filter_map, cons_option}
@@ -9,6 +9,7 @@ use Rattle.nuc_base.proofs.Maps.{not_both, same_nodes}
 use Rattle.nuc_edits.specs.declared.edit.Edit.{Edit}
 use Rattle.nuc_report.specs.declared.status.Status.{Status}
 use Rattle.nuc_report.specs.declared.status.Status.TheVariants as status
+use Rattle.nuc_script.specs.declared.command.Command.{Command}
 use Rattle.nuc_step.specs.declared.event.Event.TheVariants as event
 use Rattle.nuc_step.specs.declared.log.LogEntry.{LogEntry}
 use Rattle.nuc_step.specs.declared.log.LogEntry.TheVariants as entry
@@ -16,9 +17,8 @@ use Rattle.nuc_step.specs.declared.reply.PlanReply.{PlanReply}
 use Rattle.nuc_step.specs.declared.reply.PlanReply.TheVariants as plan
 use Rattle.nuc_step.specs.declared.reply.Reply.TheVariants as reply
 use Rattle.nuc_run.specs.Good.{AreKept}
-use Rattle.nuc_run.specs.Outcome.{RunsScript}
 use Rattle.nuc_run.specs.Plan.{batch, due_at, numbered}
-use Rattle.nuc_run.specs.Runs.{Holds, IsLawful, opening, replay, replayed}
+use Rattle.nuc_run.specs.Runs.{Holds, IsEarlyLog, IsLawful, IsWholeLog, opening, replay, replayed}
 use Rattle.nuc_run.specs.Server.{tree_of}
 use Rattle.nuc_run.specs.Sound.{AreEqual, FitsPlan, HasVersion, IsExactThroughout, IsSound, IsSoundThroughout, PlansExactly}
 use Rattle.nuc_run.specs.State.{State, fresh}
@@ -126,17 +126,16 @@ exact_of_lawful log entries opened lawful es rest e is =
     let same : entries ≡ es ++ e ∷ rest = (let both : opening ∷ entries ≡ opening ∷ (es ++ e ∷ rest) = sym opened ∙ is in cc) in
     exact_at (replay fresh es) e (kept_along fresh es kept_fresh) (lawful_at fresh es rest e (subst (IsLawful fresh) same lawful))
 
-exact_of_none : (log : List LogEntry) → log ≡ [] → IsExactThroughout log
-exact_of_none log none es rest e is = absurd (let clash : ◌≡◌ {A = List LogEntry} [] (opening ∷ (es ++ e ∷ rest)) = sym none ∙ is in cc)
+exact_of_whole : (cs : List Command) (log : List LogEntry) → IsWholeLog cs log → IsExactThroughout log
+exact_of_whole cs log whole = exact_of_lawful log whole.entries whole.opened whole.runs.lawful
 
-pub exact_throughout : (left rest : Option (List ℕ)) (before : Status) (log : List LogEntry) → RunsScript left before log rest → IsExactThroughout log
-exact_throughout left rest status.Ok log ran = exact_of_lawful log ran.whole.entries ran.whole.opened ran.whole.runs.lawful
-exact_throughout left rest status.Usage log ran = exact_of_none log ran.1
-exact_throughout left rest (status.ScriptFault line kind) log ran = exact_of_none log ran.1
-exact_throughout left rest status.ReadFault log ran = exact_of_none log ran
-exact_throughout left rest status.WriteFault log ran = absurd ran
-exact_throughout left rest status.Memory log (inl none) = exact_of_none log none
-exact_throughout left rest status.Memory log (inr ran) = elim ran.early.opened [
-  | inl none ↦ exact_of_none log none
-  | inr opened ↦ exact_of_lawful log ran.early.entries opened ran.early.runs.lawful
+exact_of_early : (cs : List Command) (log : List LogEntry) → IsEarlyLog cs log → IsExactThroughout log
+exact_of_early cs log early es rest e is = elim early.opened [
+  | inl none ↦ absurd (let clash : ◌≡◌ {A = List LogEntry} [] (opening ∷ (es ++ e ∷ rest)) = sym none ∙ is in cc)
+  | inr opened ↦ exact_of_lawful log early.entries opened early.runs.lawful es rest e is
 ]
+
+pub exact_throughout : (cs : List Command) (before : Status) (log : List LogEntry) → (before ≡ status.Ok) ⊎ (before ≡ status.Memory)
+    → (before ≡ status.Ok → IsWholeLog cs log) → (before ≡ status.Memory → IsEarlyLog cs log) → IsExactThroughout log
+exact_throughout cs before log (inl ok) whole early = exact_of_whole cs log (whole ok)
+exact_throughout cs before log (inr memory) whole early = exact_of_early cs log (early memory)
