@@ -67,7 +67,7 @@ pub record Stays (a : Item) (new : List Item) : Type 0 where
 stays_later : (a b : Item) (new : List Item) → Stays a new → Stays a (b ∷ new)
 stays_later a b new s = record { item = s.item; among = inr s.among; key = s.key; name = s.name }
 
-stays_itself : (a : Item) (new : List Item) → IsAmong a new → Stays a new
+pub stays_itself : (a : Item) (new : List Item) → IsAmong a new → Stays a new
 stays_itself a new here = record { item = a; among = here; key = refl; name = refl }
 
 refilled_stays : (i : ℕ) (bytes : List ℕ) (files : List FileData) (a : Item) → IsAmong a (map item_of files) → Stays a (map item_of (refilled i bytes files))
@@ -99,7 +99,7 @@ written_to_stays [] bytes folder a here = stays_itself a _ here
 written_to_stays (name ∷ []) bytes folder a here = written_stays name bytes folder a here
 written_to_stays (name ∷ next ∷ names) bytes folder a here = stays_itself a _ here
 
-edited_stays : (e : UserEdit) (folder : FolderData) (a : Item) → IsAmong a (listing folder) → Stays a (listing (edited e folder).1)
+pub edited_stays : (e : UserEdit) (folder : FolderData) (a : Item) → IsAmong a (listing folder) → Stays a (listing (edited e folder).1)
 edited_stays (edit.Write path filling) folder a here = written_to_stays path.names _ folder a here
 
 -- a user's edit keeps all bonds

@@ -19,7 +19,7 @@ legal_refusal m x n (put.Taken y) legal faulty =
 legal_refusal m x n put.Cycle legal faulty = absurd (legal.no_cycle faulty.3)
 legal_refusal m x n put.Memory legal faulty = refl
 
-root_above_none : (m : Nodes) (x y : ℕ) → tree.get m 0 ≡ None → 0 < x → IsUnder m y x → y ≡ 0 → ⊥
+pub root_above_none : (m : Nodes) (x y : ℕ) → tree.get m 0 ≡ None → 0 < x → IsUnder m y x → y ≡ 0 → ⊥
 root_above_none m x _ none above here e = absurd (omega arith)
 root_above_none m x _ none above (up a n at rest) e = not_both m 0 n none (subst (λ a. tree.get m a ≡ Some n) e at)
 

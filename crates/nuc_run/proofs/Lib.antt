@@ -11,3 +11,8 @@ pub mod UploadAnswers
 pub mod BatchRun
 pub mod SyncLemmas
 pub mod OneOutcome
+pub mod Kept
+pub mod KeptScan
+pub mod KeptServer
+pub mod KeptSteps
+pub mod KeptLogs

@@ -75,7 +75,7 @@ absent_of m x never = elim (tree.get m x) as (λ v. tree.get m x ≡ v → v ≡
 
 module _ (items : List Item) (l : Nodes) (keys : List Binding) (edits : List Edit) (ids : Counters) (apart : AreApart items)
     (fits : IsObserved items l keys edits ids) (item : Item) (among : IsAmong item items) (unknown : is_known keys item.key.0 ≡ false) (ver : ℕ) where
-  next_absent : tree.get l ids.next_id ≡ None
+  pub next_absent : tree.get l ids.next_id ≡ None
   next_absent = absent_of l ids.next_id (λ n e.
       let found = (fits.bound ids.next_id n e).key in
       let none : key_of ids.next_id keys ≡ None = fits.fresh ids.next_id (omega arith) in cc)

@@ -42,7 +42,7 @@ take_one n e = let one : (n + 1) - n ≡ 1 = omega arith in rw one refl
 pub last_news : (server : List Entry) (e : Entry) → take ((length server + 1) - length server) (drop (length server) (server ++ e ∷ [])) ≡ e ∷ []
 last_news server e = rw (drop_all server (e ∷ [])) (take_one (length server) e)
 
-tree_after-append : (m : Nodes) (es fs : List Entry) → tree_after m (es ++ fs) ≡ tree_after (tree_after m es) fs
+pub tree_after-append : (m : Nodes) (es fs : List Entry) → tree_after m (es ++ fs) ≡ tree_after (tree_after m es) fs
 tree_after-append m [] fs = refl
 tree_after-append m (e ∷ es) fs = tree_after-append (with_value m e.id.0 e.value) es fs
 

@@ -8,3 +8,4 @@ pub mod Runs
 pub mod Good
 pub mod World
 pub mod Outcome
+pub mod Sound

@@ -4,6 +4,7 @@ ghost use Rattle.nuc_report.specs.Output.{output_of, refusal_text};
 ghost use Rattle.nuc_run.specs.Good.{Good};
 ghost use Rattle.nuc_run.specs.Outcome.{AreRun, EndsAs, EveryScriptIsRun, JudgesWords, OneOutcome, RunsScript, WritesOutput, seen_in, whole_output};
 ghost use Rattle.nuc_run.specs.Runs.{Began, Did, IsEarlyLog, IsWholeLog, replay};
+ghost use Rattle.nuc_run.specs.Sound.{IsExactThroughout, IsSoundThroughout};
 ghost use Rattle.nuc_run.specs.State.{fresh};
 ghost use Rattle.nuc_run.specs.Tasks.{tasks_of};
 ghost use Rattle.nuc_run.specs.World.{at_rest};
@@ -35,6 +36,10 @@ pub fn run_script<S: Source, K: Sink>(
     ensures lines { TookLines 1000001 (S.left input.old) (S.left input.new) }
     ensures end { result.before ≡ Status.Ok → S.ended input.new }
     ensures read { HasCause (S.faults input.old) (S.faults input.new) (result.before ≡ Status.ReadFault) }
+
+    // What holds after each step of the log, and of each plan in it.
+    ensures sound { IsSoundThroughout result.log.entries }
+    ensures plans { IsExactThroughout result.log.entries }
 
     // What was written.
     ensures status { EndsAs result.before result.status }

@@ -1,0 +1,59 @@
+-- What holds at every point of a log: after each of its steps, and of each plan in it.
+use Rattle.std.specs.Prelude.{◌≡◌, ◌⊎◌, ◌≤◌, ◌++◌, ℕ, List, [], ◌∷◌, All, length, take, Some}
+use Rattle.std.specs.FinMap as tree
+use Rattle.nuc_base.specs.declared.node.Node.{Node}
+use Rattle.nuc_base.specs.Trees.{Nodes, WellFormed}
+use Rattle.nuc_edits.specs.declared.edit.Edit.{Edit}
+use Rattle.nuc_step.specs.declared.event.Event.TheVariants as event
+use Rattle.nuc_step.specs.declared.log.LogEntry.{LogEntry}
+use Rattle.nuc_step.specs.declared.log.LogEntry.TheVariants as entry
+use Rattle.nuc_step.specs.declared.reply.PlanReply.{PlanReply}
+use Rattle.nuc_step.specs.declared.reply.PlanReply.TheVariants as plan
+use Rattle.nuc_step.specs.declared.reply.Reply.TheVariants as reply
+use Rattle.nuc_run.specs.Runs.{opening, replay}
+use Rattle.nuc_run.specs.Server.{tree_of}
+use Rattle.nuc_run.specs.State.{ClientState, State, fresh}
+
+-- a node of the tree has the version
+pub record HasVersion (m : Nodes) (v : ℕ) : Type 0 where
+  pub id : ℕ
+  pub node : Node
+  pub here : tree.get m id ≡ Some node
+  pub ver : node.ver.0 ≡ v
+
+-- an edit replaced the version
+abbrev pub IsReplaced : List Edit → ℕ → Type 0
+IsReplaced [] v = ⊥
+IsReplaced (e ∷ es) v = (e.base.0 ≡ v) ⊎ IsReplaced es v
+
+-- NO CONTENT IS LOST: the version stands at the server or in Local, or an edit replaced it
+abbrev pub IsAccounted : State → ℕ → Type 0
+IsAccounted s v = HasVersion (tree_of s.server) v ⊎ (HasVersion s.client.local v ⊎ IsReplaced s.edits v)
+
+pub record IsSound (s : State) : Type 0 where
+  pub remote : WellFormed s.client.remote
+  pub local : WellFormed s.client.local
+  pub synced : WellFormed s.client.synced
+  pub cursor : s.client.cursor ≤ length s.server
+  pub pulled : s.client.remote ≡ tree_of (take s.client.cursor s.server)
+  pub accounted : All (λ e. IsAccounted s e.ver.0) s.edits
+
+-- the state after every first part of the log is sound
+abbrev pub IsSoundThroughout : List LogEntry → Type 0
+IsSoundThroughout log = (es rest : List LogEntry) → log ≡ opening ∷ (es ++ rest) → IsSound (replay fresh es)
+
+-- AN EMPTY PLAN says that the three trees are equal, and any other that they aren't
+abbrev pub AreEqual : ClientState → Type 0
+AreEqual c = (c.remote ≡ c.synced) × (c.local ≡ c.synced)
+
+abbrev pub FitsPlan : ClientState → PlanReply → Type 0
+FitsPlan c plan.Empty = AreEqual c
+FitsPlan c (plan.Batch ops) = ¬ (AreEqual c)
+
+abbrev pub PlansExactly : State → LogEntry → Type 0
+PlansExactly w (entry.Stepped (event.Plan client) (reply.Plan answer)) = FitsPlan w.client answer
+PlansExactly w _ = Unit {0}
+
+-- each plan of the log, by the state before it
+abbrev pub IsExactThroughout : List LogEntry → Type 0
+IsExactThroughout log = (es rest : List LogEntry) (e : LogEntry) → log ≡ opening ∷ (es ++ e ∷ rest) → PlansExactly (replay fresh es) e
