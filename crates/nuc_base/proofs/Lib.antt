@@ -1,13 +1,12 @@
 pub mod Alike
 pub mod Answered
 pub mod Came
-pub mod Chains
-pub mod Children
-pub mod Changed
-pub mod Commute
-pub mod Depths
 pub mod Candidates
 pub mod Chains
+pub mod Changed
+pub mod Children
+pub mod Commute
+pub mod Depths
 pub mod Differ
 pub mod Forms
 pub mod InTurn

@@ -1,5 +1,5 @@
-pub mod Changes
 pub mod Candidates
+pub mod Changes
 pub mod Codes
 pub mod Faults
 pub mod Kinds
