@@ -1,5 +1,6 @@
 pub mod Alike
 pub mod Answered
+pub mod Back
 pub mod Came
 pub mod Candidates
 pub mod Chains
