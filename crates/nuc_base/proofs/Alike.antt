@@ -1,9 +1,9 @@
 -- What two trees share where a chain of parents is the same in both.
-use Rattle.std.proofs.Common.{◌≡◌, ◌<◌, ℕ, Some, None, sym, ap, subst, ◌∙◌, inl, inr, arith}
+use Rattle.std.proofs.Common.{◌≡◌, ◌≢◌, ◌<◌, ℕ, Some, None, refl, sym, ap, subst, ◌∙◌, inl, inr, arith}
 use Rattle.std.specs.FinMap.{get}
 use Rattle.nuc_base.specs.Legal.{IsFree, LegalPut}
 use Rattle.nuc_base.specs.SamePlace.{SamePlace}
-use Rattle.nuc_base.specs.Trees.{Nodes, IsFolder, IsUnder, Alike, OneKind, WellFormed}
+use Rattle.nuc_base.specs.Trees.{Nodes, IsFolder, IsUnder, Above, Alike, OneKind, WellFormed}
 use Rattle.nuc_base.specs.Trees.Under.{here, up}
 use Rattle.nuc_base.specs.declared.node.Node.{Node}
 use Rattle.nuc_base.proofs.Maps.{one_node, not_both}
@@ -30,6 +30,12 @@ under_alike m k b q form none (inr (n, at, is)) alike (up y h e u) =
     let rest : IsUnder m h.place.parent.0 b = under_alike m k b h.place.parent.0 form none stands
     (λ a g v there. alike a g (up y n at (subst (λ t. IsUnder m t a) parent v)) there) u in
     up y n at (subst (λ t. IsUnder m t b) parent rest)
+
+-- the chain above x is the same where the second tree has the same nodes there
+pub alike_same : (m k : Nodes) (x : ℕ) (n : Node) → WellFormed m → get m x ≡ Some n → ((a : ℕ) → Above m a x → a ≢ 0 → get k a ≡ get m a)
+    → Alike m k n.place.parent.0
+alike_same m k x n form at same a h u there =
+    (h, same a (n, at, u) (λ root. not_both m a h (subst (λ z. get m z ≡ None) (sym root) form.no_root) there) ∙ there, refl)
 
 -- a folder whose parent is the same in both trees is a folder in both
 pub folder_alike : (m k : Nodes) (q : ℕ) → OneKind m k → IsFolder m q → Alike m k q → IsFolder k q

@@ -80,3 +80,7 @@ Alike m k q = (a : ℕ) (n : Node) → IsUnder m q a → get m a ≡ Some n → 
 -- x stands less deep than y, or as deep and its number isn't the greater
 abbrev pub Precedes : Nodes → ℕ → ℕ → Type 0
 Precedes m x y = (d e : ℕ) → Steps m 0 x d → Steps m 0 y e → (d < e) ⊎ ((d ≡ e) × (x ≤ y))
+
+-- another than x has the place p
+abbrev pub Held : Nodes → Place → ℕ → Type 0
+Held m p x = (y : ℕ) × (n : Node) × (get m y ≡ Some n) × SamePlace n.place p × (y ≢ x)
