@@ -16,6 +16,7 @@ under_absent m x q form below folder gone u = elim (folder_above m x q form fold
   | inr (n, e, is) ↦ not_both m x n gone e
 ]
 
+-- the order of the two trees doesn't matter
 pub one_kind-sym : (m k : Nodes) → OneKind m k → OneKind k m
 one_kind-sym m k kinds x n h e f = sym (kinds x h n f e)
 

@@ -9,17 +9,19 @@ use Rattle.nuc_base.specs.declared.node.Node.{Node}
 use Rattle.nuc_base.proofs.Forms.{put_keeps, cut_keeps}
 use Rattle.nuc_base.proofs.Maps.{same_or_not, one_node, not_both, get_put_same, get_put_other, get_cut_same, get_cut_other}
 
+-- the identity that changed
 pub get_changed_same : (m : Nodes) (x : ℕ) (c : Change) → get (changed m x c) x ≡ node_after c (get m x)
 get_changed_same m x Keep = refl
 get_changed_same m x (Put n) = get_put_same m x n
 get_changed_same m x Cut = get_cut_same m x
 
+-- any other
 pub get_changed_other : (m : Nodes) (x : ℕ) (c : Change) (y : ℕ) → y ≢ x → get (changed m x c) y ≡ get m y
 get_changed_other m x Keep y apart = refl
 get_changed_other m x (Put n) y apart = get_put_other m x n y apart
 get_changed_other m x Cut y apart = get_cut_other m x y apart
 
--- the same, where the identity is only known to be x
+-- the one that changed, where it is only known to be x
 pub get_changed_at : (m : Nodes) (x : ℕ) (c : Change) (y : ℕ) → y ≡ x → get (changed m x c) y ≡ node_after c (get m y)
 get_changed_at m x c y e = subst (λ z. get (changed m x c) z ≡ node_after c (get m z)) (sym e) (get_changed_same m x c)
 

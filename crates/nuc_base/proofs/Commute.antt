@@ -132,6 +132,7 @@ apart_keep m x y Keep = record { places = tt; first = tt; second = tt }
 apart_keep m x y (Put node) = record { places = tt; first = λ moves. absurd moves; second = tt }
 apart_keep m x y Cut = record { places = tt; first = tt; second = tt }
 
+-- the order of the two doesn't matter
 pub apart-sym : (m : Nodes) (x y : ℕ) (c d : Change) → Apart m x c y d → Apart m y d x c
 apart-sym m x y c d apart = record { places = places c d apart.places; first = apart.second; second = apart.first }
   where

@@ -21,6 +21,7 @@ free_unless_held m x p none y n e s = elim (same_or_not y x) [
   | inr other ↦ absurd (none (y, n, e, s, other))
 ]
 
+-- and one that another has isn't
 pub held-not_free : (m : Nodes) (x : ℕ) (p : Place) → Held m p x → ¬ (IsFree m x p)
 held-not_free m x p (y, n, e, s, other) free = other (free y n e s)
 

@@ -1,4 +1,4 @@
--- A set of identities is empty where each that would be its first, its least or its lowest leads to a contradiction.
+-- A set of identities is empty where none can be its least, its first or its lowest.
 use Rattle.std.proofs.Common.{◌≡◌, ◌<◌, ◌≤◌, ◌+◌, ℕ, zero, suc, Some, sym, subst, inl, inr, arith}
 use Rattle.std.proofs.lemmas.Bool.{cases_lt}
 use Rattle.std.specs.FinMap.{get, len}
@@ -14,7 +14,7 @@ no_least_below P key least (suc bound) x below p = least x p (λ y q. elim (case
   | inr no_less ↦ no_less
 ])
 
--- where the least by a key leads to a contradiction
+-- nobody is in a set where the one with the least key can't be
 pub no_least : (P : ℕ → Type 0) (key : ℕ → ℕ) → ((x : ℕ) → P x → ((y : ℕ) → P y → key x ≤ key y) → ⊥) → (x : ℕ) → ¬ (P x)
 no_least P key least x = no_least_below P key least (suc (key x)) x (omega arith)
 
@@ -50,7 +50,7 @@ module _ (m : Nodes) (P : ℕ → Type 0) (form : WellFormed m) (there : (x : �
   no_first_within (suc bound) x d s below p = no_first_at d
       (λ y e t less. no_first_within bound y e t (omega (arith, less, below))) (suc x) x (omega arith) s p
 
-  -- where the first, by its depth and then by its number, leads to a contradiction
+  -- nobody is in a set where the first, by its depth and then by its number, can't be
   pub no_first : (x : ℕ) → ¬ (P x)
   no_first x p =
       let node = there x p in
@@ -64,6 +64,6 @@ module _ (m : Nodes) (P : ℕ → Type 0) (form : WellFormed m)
   no_lowest_from (suc fuel) x d n e s enough p = lowest x n e p (λ y k there child.
       no_lowest_from fuel y (suc d) k there (step y d k there (subst (λ z. Steps m 0 z d) (sym child) s)) (omega (arith, enough)))
 
-  -- where one without children in the set leads to a contradiction
+  -- nobody is in a set where one without children in it can't be
   pub no_lowest : (x : ℕ) (n : Node) → get m x ≡ Some n → ¬ (P x)
   no_lowest x n e = let deep = depth_of m x n form e in no_lowest_from (suc (len m)) x deep.0 n e deep.1 (omega arith)
