@@ -9,6 +9,7 @@ mod hashes;
 mod laws;
 mod name;
 mod name_fault;
+mod name_room;
 #[cfg(test)]
 mod name_tests;
 mod node;
@@ -25,6 +26,7 @@ pub use hashes::Hashes;
 pub use laws::{either_order, every_order, legal_keeps_form};
 pub use name::Name;
 pub use name_fault::NameFault;
+pub use name_room::NameRoom;
 pub use node::{Counters, Kind, Node, NodeId, Place, Ver};
 pub use path::Path;
 pub use tree::TreeLike;

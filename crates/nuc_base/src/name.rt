@@ -5,7 +5,7 @@ ghost use Rattle.nuc_base.specs.Names.{IsName, is_plain, good_len};
 ghost use Rattle.nuc_base.specs.NameFaults.{NameFaulty};
 ghost use Rattle.nuc_base.specs.SamePlace.{SameName, name_order};
 
-use crate::{NameFault, copy_name};
+use crate::{NameFault, NameRoom, copy_name};
 use std::alloc::{AllocError, Global};
 use std::cmp::Ordering;
 use std::marker::Model;
@@ -55,6 +55,15 @@ impl Name {
     {
         let bytes = Vec::from_slice(alloc, &self.bytes)?;
         Ok(Name { bytes })
+    }
+
+    /// The same name, in room that was made before.
+    pub fn copy_in(&self, room: NameRoom) -> Name
+        ensures { result ≡ self.now }
+    {
+        Name {
+            bytes: room.filled(&self.bytes),
+        }
     }
 
     /// The name that is tried for a copy where this name and the candidates of the lower numbers are taken; they count from 1.

@@ -1,6 +1,6 @@
 ghost use Rattle.std.specs.Prelude.{◌≡◌, IfOk};
 
-use crate::Name;
+use crate::{Name, NameRoom};
 use std::alloc::{AllocError, Global};
 
 /// The identity of a file or folder, which it keeps wherever it moves. The root of every tree is 0, and has no node.
@@ -54,12 +54,29 @@ impl Node {
         ensures { IfOk result (λ n. n ≡ self.now) }
     {
         let place = self.place.copy(alloc)?;
-        Ok(Node {
+        Ok(self.moved_to(place))
+    }
+
+    /// The same node, with its name in room that was made before.
+    pub fn copy_in(&self, room: NameRoom) -> Node
+        ensures { result ≡ self.now }
+    {
+        self.moved_to(Place {
+            parent: self.place.parent,
+            name: self.place.name.copy_in(room),
+        })
+    }
+
+    /// This node at another place.
+    pub fn moved_to(&self, place: Place) -> Node
+        ensures { result ≡ record self.now { place = place } }
+    {
+        Node {
             place,
             kind: self.kind,
             ver: self.ver,
             bit: self.bit,
-        })
+        }
     }
 }
 

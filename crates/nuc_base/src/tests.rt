@@ -1,6 +1,6 @@
 ghost use Rattle.std.specs.Prelude.{◌≡◌, ◌==◌, ◌%◌};
 
-use crate::{Hashes, Kind, Name, NameFault, Node, NodeId, Place, Ver};
+use crate::{Hashes, Kind, Name, NameFault, NameRoom, Node, NodeId, Place, Ver};
 use std::test::Fail;
 
 /// Contents that are as their versions' last digits.
@@ -61,6 +61,8 @@ fn copies_are_the_same(rt: HostRuntime) -> Result<(), Fail> {
         bit: true,
     };
     let copy = node.copy(rt.alloc())?;
+    let again = node.copy_in(NameRoom::new(rt.alloc())?);
+    assert!(rt; again.bit && again.place.name.same(&copy.place.name));
     assert_eq!(rt; copy.place.name.bytes(), b"notes.txt".as_slice());
     assert_eq!(rt;
         (copy.place.parent, copy.ver, copy.bit),
