@@ -58,12 +58,13 @@ pub trait TreeLike {
         ensures memory { OnErr result (spare self.old < n) }
         ensures spare { spare self.old ≤ spare self.new };
 
-    /// Gives an identity a node, in place of the one that it had. It wants memory only when `spare` is 0.
-    fn put(&mut self, id: NodeId, node: Node) -> Result<(), PutFault>
+    /// Gives an identity a node, and hands over the one that it had. It wants memory only when `spare` is 0.
+    fn put(&mut self, id: NodeId, node: Node) -> Result<Option<Node>, PutFault>
         requires tree { WellFormed (nodes self.old) }
         requires id { 0 < id.0 }
         requires fits { FitsKind node }
         ensures ok { OnOk result (LegalPut (nodes self.old) id.0 node × (nodes self.new ≡ map.insert (nodes self.old) id.0 node)) }
+        ensures before { IfOk result (λ before. before ≡ map.get (nodes self.old) id.0) }
         ensures tree { WellFormed (nodes self.new) }
         ensures fault { IfErr result (λ e. PutFaulty (nodes self.old) id.0 node e) }
         ensures err { OnErr result (nodes self.new ≡ nodes self.old) }

@@ -42,7 +42,7 @@ fn puts_cuts_and_looks(rt: HostRuntime) -> Result<(), Fail> {
         assert!(rt; id > 0);
         let node = node(rt.alloc(), parent, name, ver)?;
         assert_eq!(rt; tree.check_put(NodeId(id), &node), want);
-        assert_eq!(rt; tree.put(NodeId(id), node), want);
+        assert_eq!(rt; tree.put(NodeId(id), node).map(|_| ()), want);
     }
     looks(&rt, rt.alloc(), &tree)?;
     children(&rt, &tree)?;

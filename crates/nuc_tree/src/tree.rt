@@ -6,6 +6,7 @@ use crate::entry::{Entry, child_at, has_parent, position, standing_at};
 use nuc_base::{CutFault, Name, Node, NodeId, PutFault, TreeLike};
 use std::alloc::{AllocError, Global};
 use std::marker::Model;
+use std::mem;
 
 /// A tree as a list of its nodes in order of identity. `get` takes time in the logarithm of their number, every other
 /// call in their number.
@@ -83,18 +84,21 @@ impl TreeLike for Tree {
         self.entries.reserve(n as usize)
     }
 
-    fn put(&mut self, id: NodeId, node: Node) -> Result<(), PutFault> {
+    fn put(&mut self, id: NodeId, node: Node) -> Result<Option<Node>, PutFault> {
         self.check_put(id, &node)?;
         match position(&self.entries, id) {
-            Ok(at) => self.entries[at] = Entry { id, node },
+            Ok(at) => {
+                let Entry { id: _, node } = mem::replace(&mut self.entries[at], Entry { id, node });
+                Ok(Some(node))
+            }
             Err(at) => {
                 let entry = Entry { id, node };
                 self.entries
                     .insert(at, entry)
                     .map_err(|_| PutFault::Memory)?;
+                Ok(None)
             }
         }
-        Ok(())
     }
 
     fn cut(&mut self, id: NodeId) -> Result<Node, CutFault> {
