@@ -1,23 +1,11 @@
 -- What is legal for a file at the root.
-use Rattle.std.proofs.Common.{◌≡◌, ◌<◌, ℕ, None, Some, refl, subst, inl, arith}
+use Rattle.std.proofs.Common.{◌≡◌, ◌<◌, ℕ, None, Some, subst, inl, arith}
 use Rattle.std.specs.FinMap as tree
-use Rattle.nuc_base.specs.Faults.{PutFaulty}
 use Rattle.nuc_base.specs.Legal.{LegalPut, IsFree}
 use Rattle.nuc_base.specs.Trees.{Nodes, IsUnder, WellFormed}
 use Rattle.nuc_base.specs.Trees.Under.{here, up}
 use Rattle.nuc_base.specs.declared.node.Node.{Node}
-use Rattle.nuc_base.specs.declared.tree_fault.PutFault.{PutFault}
-use Rattle.nuc_base.specs.declared.tree_fault.PutFault.TheVariants as put
 use Rattle.nuc_base.proofs.Maps.{not_both}
-
--- a legal put can be refused for want of memory alone
-pub legal_refusal : (m : Nodes) (x : ℕ) (n : Node) (e : PutFault) → LegalPut m x n → PutFaulty m x n e → e ≡ put.Memory
-legal_refusal m x n put.KindChanged legal faulty = absurd (faulty legal.kind)
-legal_refusal m x n put.NoParent legal faulty = absurd (faulty.1 legal.parent)
-legal_refusal m x n (put.Taken y) legal faulty =
-    let (k, e, s) = faulty.3 in absurd (faulty.2 (legal.free y.0 k e s))
-legal_refusal m x n put.Cycle legal faulty = absurd (legal.no_cycle faulty.3)
-legal_refusal m x n put.Memory legal faulty = refl
 
 pub root_above_none : (m : Nodes) (x y : ℕ) → tree.get m 0 ≡ None → 0 < x → IsUnder m y x → y ≡ 0 → ⊥
 root_above_none m x _ none above here e = absurd (omega arith)

@@ -3,7 +3,6 @@
 
 mod client;
 mod entry;
-mod legal;
 mod plan;
 mod run;
 mod scan;

@@ -8,8 +8,7 @@ ghost use Rattle.nuc_run.specs.Good.{AreApart, AreKept, IsObserved};
 ghost use Rattle.nuc_run.specs.Scan.{Observed, is_known, new_file, observed, with_item, with_new_file};
 
 use crate::client::{Binding, is_known};
-use crate::legal::put_legal;
-use nuc_base::{Counters, Kind, Name, Node, NodeId, Place, Ver};
+use nuc_base::{Counters, Kind, Name, Node, NodeId, Place, Ver, put_legal};
 use nuc_edits::{EditKind, Edits};
 use nuc_folder::Item;
 use nuc_hash::Content;

@@ -6,8 +6,7 @@ ghost use Rattle.nuc_run.specs.Server.{tree_of};
 ghost use Rattle.nuc_run.specs.Step.{next_entry};
 
 use crate::entry::Entry;
-use crate::legal::put_legal;
-use nuc_base::{Node, NodeId};
+use nuc_base::{Node, NodeId, put_legal};
 use nuc_tree::Tree;
 use sqlite_items::Items;
 use std::alloc::{AllocError, Global};
@@ -78,7 +77,7 @@ impl Server {
             by: 1,
         })?;
         match put_legal(&mut self.tree, id, placed) {
-            Ok(()) => Ok(rev),
+            Ok(_) => Ok(rev),
             Err(refused) => {
                 let _ = self.journal.pop();
                 Err(refused)

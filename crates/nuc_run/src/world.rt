@@ -22,11 +22,10 @@ ghost use Rattle.nuc_step.specs.declared.reply.Reply.TheVariants as reply;
 ghost use Rattle.nuc_step.specs.declared.reply.TakeReply.TheVariants as take_reply;
 
 use crate::client::{Client, key_of};
-use crate::legal::put_legal;
 use crate::plan::batch;
 use crate::scan::observe;
 use crate::server::Server;
-use nuc_base::{Change, Counters, Node};
+use nuc_base::{Change, Counters, Node, put_legal};
 use nuc_class::Op;
 use nuc_edits::Edits;
 use nuc_folder::{Item, MemFolder, ReadBack, UserEdit, UserReply};
