@@ -1,0 +1,4 @@
+pub mod Ends
+pub mod Journals
+mod Kept
+pub mod Lists

@@ -1,0 +1,4 @@
+pub mod Entries
+pub mod Journal
+pub mod State
+pub mod Tracks
