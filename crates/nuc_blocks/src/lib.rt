@@ -1,0 +1,13 @@
+//! The store of blocks: bytes under their SHA-256.
+#![tactic(auto)]
+
+mod fault;
+mod laws;
+mod store;
+
+pub use fault::{AssembleFault, StoreFault};
+pub use laws::{each_has_its_digest, kept_stands, others_stand, stored_stands};
+pub use store::Store;
+
+#[cfg(test)]
+mod tests;
