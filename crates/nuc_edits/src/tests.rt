@@ -29,6 +29,9 @@ fn records_edits_in_order(rt: HostRuntime) -> Result<(), Fail> {
 }
 
 fn shown(edit: &Edit) -> (u64, u64, u64, u64) {
-    let EditKind::Put(content) = &edit.what;
-    (edit.ver.0, edit.id.0, edit.base.0, content.size())
+    let size = match &edit.what {
+        EditKind::Put(content) => content.size(),
+        EditKind::Deleted => 0,
+    };
+    (edit.ver.0, edit.id.0, edit.base.0, size)
 }
