@@ -1,0 +1,3 @@
+pub mod Judge
+pub mod State
+pub mod Undo
