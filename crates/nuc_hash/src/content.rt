@@ -75,6 +75,13 @@ impl Content {
         self.blocks.get(index)
     }
 
+    /// The digests of all blocks, in order.
+    pub fn blocks(&self) -> &[Digest]
+        ensures { result.now ≡ self.now.blocks }
+    {
+        self.blocks.as_slice()
+    }
+
     pub fn block_count(&self) -> usize
         ensures { result ≡ length self.now.blocks }
     {

@@ -31,6 +31,7 @@ fn assert_content<R: AllocGlobal + Abort>(
     assert_eq!(rt; hash_text(rt.alloc(), content.hash())?.as_str(), hash);
     assert_eq!(rt; content.size(), size);
     assert_eq!(rt; content.block_count(), blocks.len());
+    assert_eq!(rt; content.blocks().len(), blocks.len());
     for (index, block) in blocks.iter().enumerate() {
         let digest = content.block(index).copied().unwrap_or(Digest([0; 32]));
         assert_eq!(rt; hash_text(rt.alloc(), &digest)?.as_str(), *block);
