@@ -22,6 +22,10 @@ pub tree_after-push : (m : Nodes) (es : List Entry) (e : Entry) → tree_after m
 tree_after-push m [] e = refl
 tree_after-push m (f ∷ es) e = tree_after-push (with_value m f.id.0 f.value) es e
 
+pub tree_after-append : (m : Nodes) (es fs : List Entry) → tree_after m (es ++ fs) ≡ tree_after (tree_after m es) fs
+tree_after-append m [] fs = refl
+tree_after-append m (e ∷ es) fs = tree_after-append (with_value m e.id.0 e.value) es fs
+
 pub tree_push : (es : List Entry) (e : Entry) → tree_of (es ++ e ∷ []) ≡ with_value (tree_of es) e.id.0 e.value
 tree_push es e = tree_after-push tree.empty es e
 
@@ -60,6 +64,9 @@ module _ (es : List Entry) (e : Entry) where
   pub kind_push-same : kind_of (es ++ e ∷ []) e.id.0 ≡ kind_with e.value (kind_of es e.id.0)
   kind_push-same = kind_push es e e.id.0 ∙ ap (λ b. cond b (kind_with e.value (kind_of es e.id.0)) (kind_of es e.id.0)) (same_yes e.id.0)
 
+  pub value_push-same : value_of (es ++ e ∷ []) e.id.0 ≡ e.value
+  value_push-same = value_push es e e.id.0 ∙ ap (λ b. cond b e.value (value_of es e.id.0)) (same_yes e.id.0)
+
   pub track_push-same : (t : Option Track) → Tells t (live_revision e.value e.rev) (kind_with e.value (kind_of es e.id.0)) → IsTrack t (es ++ e ∷ []) e.id.0
   track_push-same t h = rw (revision_push-same, kind_push-same) h
 
@@ -70,6 +77,9 @@ module _ (es : List Entry) (e : Entry) (x : ℕ) (apart : e.id.0 ≢ x) where
 
   pub kind_push-other : kind_of (es ++ e ∷ []) x ≡ kind_of es x
   kind_push-other = kind_push es e x ∙ ap (λ b. cond b (kind_with e.value (kind_of es x)) (kind_of es x)) (other_no e.id.0 x apart)
+
+  pub value_push-other : value_of (es ++ e ∷ []) x ≡ value_of es x
+  value_push-other = value_push es e x ∙ ap (λ b. cond b e.value (value_of es x)) (other_no e.id.0 x apart)
 
   pub track_push-other : (t : Option Track) → IsTrack t es x → IsTrack t (es ++ e ∷ []) x
   track_push-other t h = rw (revision_push-other, kind_push-other) h

@@ -1,4 +1,5 @@
 pub mod Ends
+pub mod Histories
 pub mod Journals
 mod Kept
 pub mod Lists

@@ -1,4 +1,5 @@
 pub mod Entries
 pub mod Journal
+pub mod Laws
 pub mod State
 pub mod Tracks

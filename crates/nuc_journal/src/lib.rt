@@ -4,7 +4,11 @@
 mod apply;
 mod entry;
 mod journal;
+mod laws;
 mod track;
 
 pub use entry::Entry;
 pub use journal::Journal;
+pub use laws::{
+    current_revisions_gave, kinds_stay, last_entry_stands, revisions_count, trees_are_formed,
+};
