@@ -1,13 +1,10 @@
 ghost use Rattle.std.specs.Prelude.{◌≡◌, ◌<◌, OnOk, IfOk};
-ghost use Rattle.nuc_base.specs.Kinds.{FitsKind};
-ghost use Rattle.nuc_base.specs.Legal.{LegalPut, LegalCut};
 ghost use Rattle.nuc_base.specs.Trees.{WellFormed};
 ghost use Rattle.nuc_journal.specs.Entries.{with_value, tree_of};
 ghost use Rattle.nuc_journal.specs.Journal.{IsLegalValue, IsJournal};
-ghost use Rattle.std.specs.FinMap as map;
 
 use crate::Entry;
-use nuc_base::{CutFault, Node, NodeId, PutFault, TreeLike};
+use nuc_base::{cut_legal, put_legal};
 use nuc_tree::Tree;
 use std::alloc::{AllocError, Global};
 
@@ -33,39 +30,12 @@ fn apply(alloc: Global, tree: &mut Tree, entry: &Entry) -> Result<(), AllocError
     ensures form { WellFormed tree.new.nodes }
 {
     match &entry.value {
-        Some(node) => put(tree, entry.id, node.copy(alloc)?),
+        Some(node) => {
+            put_legal(tree, entry.id, node.copy(alloc)?)?;
+        }
         None => {
-            cut(tree, entry.id);
-            Ok(())
+            cut_legal(tree, entry.id);
         }
     }
-}
-
-fn put(tree: &mut Tree, id: NodeId, node: Node) -> Result<(), AllocError>
-    requires form { WellFormed tree.old.nodes }
-    requires id { 0 < id.0 }
-    requires fits { FitsKind node }
-    requires legal { LegalPut tree.old.nodes id.0 node }
-    ensures nodes { OnOk result (tree.new.nodes ≡ map.insert tree.old.nodes id.0 node) }
-    ensures form { WellFormed tree.new.nodes }
-{
-    match tree.put(id, node) {
-        Ok(()) => Ok(()),
-        Err(PutFault::Memory) => Err(AllocError),
-        Err(PutFault::KindChanged | PutFault::NoParent | PutFault::Taken(_) | PutFault::Cycle) => {
-            unreachable!()
-        }
-    }
-}
-
-fn cut(tree: &mut Tree, id: NodeId)
-    requires form { WellFormed tree.old.nodes }
-    requires legal { LegalCut tree.old.nodes id.0 }
-    ensures nodes { tree.new.nodes ≡ map.remove tree.old.nodes id.0 }
-    ensures form { WellFormed tree.new.nodes }
-{
-    match tree.cut(id) {
-        Ok(_) => {}
-        Err(CutFault::Absent | CutFault::NotEmpty) => unreachable!(),
-    }
+    Ok(())
 }

@@ -1,4 +1,4 @@
-use Rattle.std.specs.Prelude.{◌≡◌, ◌≤◌, ◌<◌, ◌+◌, ◌-◌, ℕ, Bool, true, List, length, take, vec_len, vec_capacity}
+use Rattle.std.specs.Prelude.{◌≡◌, ◌≤◌, ◌<◌, ◌+◌, ◌-◌, ◌^◌, ℕ, Bool, true, List, length, take, vec_len, vec_capacity}
 use Rattle.nuc_journal.specs.Entries.{tree_of}
 use Rattle.nuc_journal.specs.Journal.{IsJournal}
 use Rattle.nuc_journal.specs.State.{JournalState}
@@ -15,7 +15,17 @@ pub record ServerState : Type 0 where
 
 -- the room for one entry more is there, beside that for taking back the last ones
 pub record IsReady (journal : JournalState) (tree : TreeState) (undos undo_room rooms : ℕ) : Type 0 where
+  pub next : length journal.now + 1 < 2 ^ 64
   pub journal : 0 < journal.spare
   pub tree : undos + 2 ≤ tree.spare
   pub undos : undos < undo_room
   pub rooms : 2 ≤ rooms
+
+-- the tree is that of the last revision, the entries behind the settled ones can be taken back, and the tree has the room for it
+pub record IsServer (journal : JournalState) (tree : TreeState) (undos : List Undo) (undo_room rooms : ℕ) (ready : Bool) : Type 0 where
+  pub journal : IsJournal journal.now
+  pub tree : tree.nodes ≡ tree_of journal.now
+  pub settled : journal.settled ≡ take (length journal.now - length undos) journal.now
+  pub undone : AreUndone journal.now (length journal.now - length undos) undos
+  pub room : length undos ≤ tree.spare
+  pub ready : ready ≡ true → IsReady journal tree (length undos) undo_room rooms

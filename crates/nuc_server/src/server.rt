@@ -40,7 +40,9 @@ impl Model for LoopServer {
 
     ghost view = { λ s. record { now = s.journal.now; settled = s.journal.settled; ready = s.ready } };
 
-    ghost invariant = { λ s. IsServer s.journal s.tree s.undos s.rooms s.ready };
+    ghost use Rattle.std.specs.Prelude.{vec_capacity, vec_len};
+
+    ghost invariant = { λ s. IsServer s.journal s.tree s.undos.items (vec_capacity s.undos) (vec_len s.rooms) s.ready };
 }
 
 impl LoopServer {
@@ -80,6 +82,7 @@ impl LoopServer {
         ensures settled { self.new.settled ≡ self.old.settled }
     {
         self.ready = false;
+        self.journal.last().checked_add(1).ok_or(AllocError)?;
         self.journal.reserve(1)?;
         self.tree.reserve(self.undos.len() as u64 + 2)?;
         self.undos.reserve(1)?;
@@ -136,10 +139,10 @@ impl LoopServer {
         ensures journal { IsJournal self.new.now }
     {
         self.ready = false;
+        let rev = self.journal.last().checked_add(1).ok_or(AllocError)?;
         self.journal.reserve(1)?;
         self.tree.reserve(self.undos.len() as u64 + 2)?;
         self.undos.reserve(1)?;
-        let rev = self.journal.last().checked_add(1).ok_or(AllocError)?;
         let entered = copied(alloc, &mut self.rooms, value)?;
         let placed = copied(alloc, &mut self.rooms, value)?;
         let undo = change(&mut self.tree, id, placed)?;
