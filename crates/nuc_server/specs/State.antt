@@ -14,18 +14,18 @@ pub record ServerState : Type 0 where
   pub ready : Bool
 
 -- the room for one entry more is there, beside that for taking back the last ones
-pub record IsReady (journal : JournalState) (tree : TreeState) (undos undo_room rooms : ℕ) : Type 0 where
-  pub next : length journal.now + 1 < 2 ^ 64
-  pub journal : 0 < journal.spare
-  pub tree : undos + 2 ≤ tree.spare
-  pub undos : undos < undo_room
-  pub rooms : 2 ≤ rooms
+pub record IsReady (j : JournalState) (t : TreeState) (undos undo_room rooms : ℕ) : Type 0 where
+  pub next : length j.now + 1 < 2 ^ 64
+  pub entry : 0 < j.spare
+  pub node : undos + 2 ≤ t.spare
+  pub undo : undos < undo_room
+  pub names : 2 ≤ rooms
 
 -- the tree is that of the last revision, the entries behind the settled ones can be taken back, and the tree has the room for it
-pub record IsServer (journal : JournalState) (tree : TreeState) (undos : List Undo) (undo_room rooms : ℕ) (ready : Bool) : Type 0 where
-  pub journal : IsJournal journal.now
-  pub tree : tree.nodes ≡ tree_of journal.now
-  pub settled : journal.settled ≡ take (length journal.now - length undos) journal.now
-  pub undone : AreUndone journal.now (length journal.now - length undos) undos
-  pub room : length undos ≤ tree.spare
-  pub ready : ready ≡ true → IsReady journal tree (length undos) undo_room rooms
+pub record IsServer (j : JournalState) (t : TreeState) (undos : List Undo) (undo_room rooms : ℕ) (ready : Bool) : Type 0 where
+  pub journal : IsJournal j.now
+  pub tree : t.nodes ≡ tree_of j.now
+  pub settled : j.settled ≡ take (length j.now - length undos) j.now
+  pub undone : AreUndone j.now (length j.now - length undos) undos
+  pub room : length undos ≤ t.spare
+  pub is_ready : ready ≡ true → IsReady j t (length undos) undo_room rooms

@@ -24,7 +24,7 @@ pub fn judge<T: TreeLike>(
     requires journal { IsJournal journal.now.now }
     requires tree { T.nodes tree.now ≡ tree_of journal.now.now }
     requires commit { IsCommit commit.now }
-    ensures { MatchResult result (λ _. IsAccepted journal.now.now store.now.now commit.now (blocks_with (option_copied content))) (λ reason. IsRefused journal.now.now store.now.now commit.now (blocks_with (option_copied content)) reason) }
+    ensures { MatchResult result (λ _. IsAccepted journal.now.now store.now.now commit.now (blocks_with (option_copied content.entry))) (λ reason. IsRefused journal.now.now store.now.now commit.now (blocks_with (option_copied content.entry)) reason) }
 {
     let current = journal.rev_of(commit.id);
     if commit.base != current {
@@ -83,7 +83,7 @@ fn check_node<T: TreeLike>(tree: &T, id: NodeId, node: &Node) -> Result<(), Refu
 
 /// The first block of a content that the store lacks.
 fn first_lacking(store: &Store, content: Option<&Content>) -> Option<Digest>
-    ensures { result ≡ first_missing store.now.now (blocks_with (option_copied content)) }
+    ensures { result ≡ first_missing store.now.now (blocks_with (option_copied content.entry)) }
 {
     match content {
         Some(content) => store.first_missing(content.blocks()),

@@ -106,7 +106,7 @@ impl LoopServer {
         by: u32,
     ) -> CommitReply
         requires { IsCommit commit.now }
-        ensures judged { Judges self.old.now store.now.now commit.now (blocks_with (option_copied content)) by result self.new.now }
+        ensures judged { Judges self.old.now store.now.now commit.now (blocks_with (option_copied content.entry)) by result self.new.now }
         ensures settled { self.new.settled ≡ self.old.settled }
         ensures memory { result ≡ CommitReply.Memory → self.old.ready ≡ false }
         ensures journal { IsJournal self.new.now }
@@ -186,7 +186,7 @@ fn copied(
     rooms: &mut Vec<NameRoom>,
     value: &Option<Node>,
 ) -> Result<Option<Node>, AllocError>
-    ensures { IfOk result (λ copy. copy ≡ value.now) }
+    ensures copy { IfOk result (λ copy. copy ≡ value.now) }
     ensures rooms { length rooms.old.items ≤ length rooms.new.items + 1 }
     ensures memory { 0 < length rooms.old.items → IsOk result }
 {
@@ -197,7 +197,7 @@ fn copied(
 }
 
 fn copied_node(alloc: Global, rooms: &mut Vec<NameRoom>, node: &Node) -> Result<Node, AllocError>
-    ensures { IfOk result (λ copy. copy ≡ node.now) }
+    ensures copy { IfOk result (λ copy. copy ≡ node.now) }
     ensures rooms { length rooms.old.items ≤ length rooms.new.items + 1 }
     ensures memory { 0 < length rooms.old.items → IsOk result }
 {
