@@ -5,6 +5,8 @@ mod apply;
 mod entry;
 mod journal;
 mod laws;
+#[cfg(test)]
+mod tests;
 mod track;
 
 pub use entry::Entry;
