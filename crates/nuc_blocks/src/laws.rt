@@ -1,4 +1,4 @@
-ghost use Rattle.nuc_blocks.specs.Laws.{EachHasItsDigest, KeptStands, OthersStand, StoredStands};
+ghost use Rattle.nuc_blocks.specs.Laws.{AssemblesContents, EachHasItsDigest, KeptStands, OthersStand, StoredStands};
 
 /// Bytes that are stored where nothing stood stand there.
 pub fn stored_stands()
@@ -18,4 +18,9 @@ pub fn others_stand()
 /// A block has the digest by which it is asked for.
 pub fn each_has_its_digest()
     ensures { EachHasItsDigest }
+{}
+
+/// The blocks of a content give its bytes, as far as their digests tell: bytes of the same blocks, and so of the same hash.
+pub fn assembles_contents()
+    ensures { AssemblesContents }
 {}

@@ -6,7 +6,7 @@ mod laws;
 mod store;
 
 pub use fault::{AssembleFault, StoreFault};
-pub use laws::{each_has_its_digest, kept_stands, others_stand, stored_stands};
+pub use laws::{assembles_contents, each_has_its_digest, kept_stands, others_stand, stored_stands};
 pub use store::Store;
 
 #[cfg(test)]
