@@ -90,6 +90,7 @@ fn goes_back_to_what_was_settled(rt: HostRuntime) -> Result<(), Fail> {
     store.settle();
     store.put(alloc, &OF_A, b"a")?;
     assert_eq!(rt; store.entry(1).map(|block| block.0), Some(OF_A));
+    assert_eq!(rt; store.settled_len(), 1);
     store.back();
     assert_eq!(rt; store.len(), 1);
     assert_eq!(rt; store.first_missing(&[OF_B, OF_A]), Some(OF_A));
