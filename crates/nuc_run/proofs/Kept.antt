@@ -3,7 +3,7 @@ use Rattle.std.proofs.Common.{◌≡◌, ◌⊎◌, ◌≤◌, ◌<◌, ◌+◌,
 use Rattle.std.specs.FinMap as tree
 use Rattle.nuc_base.specs.declared.node.Node.{Node}
 use Rattle.nuc_base.specs.Trees.{Nodes, WellFormed}
-use Rattle.nuc_class.specs.declared.op.Change.TheVariants.{Put}
+use Rattle.nuc_base.specs.declared.change.Change.TheVariants.{Put}
 use Rattle.nuc_edits.specs.declared.edit.Edit.{Edit}
 use Rattle.nuc_folder.specs.Formed.{IsFormed}
 use Rattle.nuc_folder.specs.declared.item.Item.{Item}

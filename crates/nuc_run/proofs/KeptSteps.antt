@@ -7,8 +7,8 @@ use Rattle.nuc_base.specs.Trees.{Nodes, WellFormed}
 use Rattle.nuc_base.specs.declared.node.Node.{Node}
 use Rattle.nuc_base.proofs.Forms.{empty_form}
 use Rattle.nuc_base.proofs.Maps.{after_put, get_put_same, one_node}
-use Rattle.nuc_class.specs.declared.op.Change.{Change}
-use Rattle.nuc_class.specs.declared.op.Change.TheVariants.{Keep, Put}
+use Rattle.nuc_base.specs.declared.change.Change.{Change}
+use Rattle.nuc_base.specs.declared.change.Change.TheVariants.{Keep, Put, Cut}
 use Rattle.nuc_class.specs.declared.op.Op.{Op}
 use Rattle.nuc_folder.proofs.Formed.{formed-edited, formed-empty}
 use Rattle.nuc_folder.specs.declared.user.UserEdit.{UserEdit}
@@ -307,6 +307,7 @@ kept_take_at : (s : State) (n : ℕ) (f : Flight) (stage : Stage) (change : Chan
 kept_take_at s n f planned change found is remote kept = kept
 kept_take_at s n f (taken rev) change found is remote kept = kept
 kept_take_at s n f (started bytes) Keep found is remote kept = kept
+kept_take_at s n f (started bytes) Cut found is remote kept = kept
 kept_take_at s n f (started bytes) (Put node) found is remote kept =
     let fly = fly_found s.client.local (tree_of s.server) (length s.server) n s.client.flights f found kept.flights in
     let same : fly.node ≡ node = (let both : Put fly.node ≡ Put node = sym fly.remote ∙ remote in cc) in
@@ -388,6 +389,7 @@ kept_done_as : (s : State) (n : ℕ) (f : Flight) (stage : Stage) (change : Chan
 kept_done_as s n f planned change found is synced kept = kept
 kept_done_as s n f (started bytes) change found is synced kept = kept
 kept_done_as s n f (taken rev) Keep found is synced kept = kept
+kept_done_as s n f (taken rev) Cut found is synced kept = kept
 kept_done_as s n f (taken rev) (Put node) found is synced kept =
     let fly = fly_found s.client.local (tree_of s.server) (length s.server) n s.client.flights f found kept.flights in
     let same : fly.node ≡ node = (let both : Put fly.node ≡ Put node = sym fly.synced ∙ synced in cc) in
