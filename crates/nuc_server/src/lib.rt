@@ -4,6 +4,8 @@
 mod commit;
 mod judge;
 mod server;
+#[cfg(test)]
+mod tests;
 mod undo;
 
 pub use commit::{Commit, CommitReply, Refusal};
