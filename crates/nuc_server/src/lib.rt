@@ -5,6 +5,8 @@ mod commit;
 mod judge;
 mod server;
 mod undo;
+mod web_edit;
 
 pub use commit::{Commit, CommitReply, Refusal};
 pub use server::{LoopServer, ServerTree};
+pub use web_edit::{WebEdit, WebReply};
