@@ -20,6 +20,9 @@ abbrev pub LeadsTo : Nodes → ℕ → List (List ℕ) → Place → Type 0
 LeadsTo m x [] place = ⊥
 LeadsTo m x (name ∷ names) place = LeadsOn m x name names place
 
+abbrev pub LeadsNowhereOn : Nodes → ℕ → List ℕ → List (List ℕ) → Type 0
+LeadsNowhereOn m x name names = (place : Place) → ¬ (LeadsOn m x name names place)
+
 abbrev pub LeadsNowhere : Nodes → ℕ → List (List ℕ) → Type 0
 LeadsNowhere m x names = (place : Place) → ¬ (LeadsTo m x names place)
 

@@ -32,6 +32,11 @@ pub record IsNextId (next : ℕ) (es : List Entry) : Type 0 where
 abbrev pub Enters : List Entry → ℕ → Option Node → ℕ → List Entry → Type 0
 Enters es x value rev now = (rev ≡ length es + 1) × (now ≡ es ++ next_entry es x value 0 ∷ [])
 
+abbrev pub EnterAnswers : List Entry → ℕ → Option Node → WebReply → List Entry → Type 0
+EnterAnswers es x value (reply.Accepted rev) now = Enters es x value rev now
+EnterAnswers es x value reply.Memory now = now ≡ es
+EnterAnswers es x value answer now = ⊥
+
 -- the edits with one more, of x over the version base, under the version ver
 abbrev pub with_edit : Recorded → ℕ → ℕ → ℕ → EditKind → Recorded
 with_edit edits ver x base what =
@@ -47,6 +52,11 @@ MkdirAnswers es ids place (reply.Accepted rev) now left = IsVacant (tree_of es) 
 MkdirAnswers es ids place (reply.Taken y) now left = StandsAt (tree_of es) y.0 place × (now ≡ es) × (left ≡ ids)
 MkdirAnswers es ids place reply.Memory now left = (now ≡ es) × (left ≡ ids)
 MkdirAnswers es ids place answer now left = ⊥
+
+-- a node is the one before, at any place
+abbrev pub IsMoved : Option Node → Node → Type 0
+IsMoved None node = ⊥
+IsMoved (Some n) node = (node.kind ≡ n.kind) × (node.ver.0 ≡ n.ver.0) × (node.bit ≡ n.bit)
 
 -- x gets a node at another place
 abbrev pub PutAnswers : List Entry → ℕ → Node → WebReply → List Entry → Type 0

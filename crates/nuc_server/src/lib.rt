@@ -1,11 +1,19 @@
 //! The server: what a client commits and what is edited on the web, judged and entered in the journal.
 #![tactic(auto)]
 
+mod bit;
 mod commit;
 mod judge;
+mod keep;
+mod mkdir;
+mod path;
+mod relocate;
+mod remove;
 mod server;
 mod undo;
+mod web;
 mod web_edit;
+mod write;
 
 pub use commit::{Commit, CommitReply, Refusal};
 pub use server::{LoopServer, ServerTree};
