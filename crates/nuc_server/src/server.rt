@@ -1,4 +1,4 @@
-ghost use Rattle.std.specs.Prelude.{◌≡◌, ◌<◌, ◌≤◌, ◌+◌, [], ◌∷◌, ◌++◌, true, false, length, IfOk, IsOk, IsTrue, OnOk, OnErr, Some};
+ghost use Rattle.std.specs.Prelude.{◌≡◌, ◌<◌, ◌≤◌, ◌+◌, [], ◌∷◌, ◌++◌, true, false, length, IfOk, IsOk, IsTrue, OnOk, OnErr, Some, vec_len};
 ghost use Rattle.std.specs.Option.{option_copied};
 ghost use Rattle.nuc_base.specs.Trees.{WellFormed};
 ghost use Rattle.nuc_journal.specs.Entries.{tree_of};
@@ -86,9 +86,7 @@ impl LoopServer {
         self.journal.reserve(1)?;
         self.tree.reserve(self.undos.len() as u64 + 2)?;
         self.undos.reserve(1)?;
-        while self.rooms.len() < 2 {
-            self.rooms.push(NameRoom::new(alloc)?)?;
-        }
+        room_names(alloc, &mut self.rooms)?;
         self.ready = true;
         Ok(())
     }
@@ -178,6 +176,16 @@ impl LoopServer {
         }
         self.journal.back();
     }
+}
+
+/// Makes room for two names: one for the journal and one for the tree.
+fn room_names(alloc: Global, rooms: &mut Vec<NameRoom>) -> Result<(), AllocError>
+    ensures { OnOk result (2 ≤ vec_len rooms.new) }
+{
+    while rooms.len() < 2 {
+        rooms.push(NameRoom::new(alloc)?)?;
+    }
+    Ok(())
 }
 
 /// A copy of a value, with its name in memory of its own, or else in one of the rooms.
