@@ -1,2 +1,4 @@
+mod Fresh
 pub mod Judging
+mod Putting
 pub mod Undoing

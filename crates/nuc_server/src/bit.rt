@@ -17,7 +17,8 @@ pub(crate) fn set_bit(
     on: bool,
     ids: &Counters,
 ) -> WebReply
-    requires { IsNextId ids.now.next_id server.old.now }
+    requires journal { IsJournal server.old.now }
+    requires identities { IsNextId ids.now.next_id server.old.now }
     ensures answers { BitAnswers server.old.now (place_in parent.0 name.now) on result server.new.now }
     ensures identities { IsNextId ids.now.next_id server.new.now }
     ensures journal { IsJournal server.new.now }

@@ -19,6 +19,7 @@ pub(crate) fn mkdir(
     ids: &mut Counters,
 ) -> WebReply
     requires folder { IsFolder (tree_of server.old.now) parent.0 }
+    requires journal { IsJournal server.old.now }
     requires identities { IsNextId ids.old.next_id server.old.now }
     ensures answers { MkdirAnswers server.old.now ids.old (place_in parent.0 name.now) result server.new.now ids.new }
     ensures versions { ids.new.next_ver ≡ ids.old.next_ver }

@@ -20,7 +20,8 @@ pub(crate) fn relocate(
     to: &Path,
     ids: &Counters,
 ) -> WebReply
-    requires { IsNextId ids.now.next_id server.old.now }
+    requires journal { IsJournal server.old.now }
+    requires identities { IsNextId ids.now.next_id server.old.now }
     ensures answers { MoveAnswers server.old.now (place_in parent.0 name.now) to.now.names result server.new.now }
     ensures identities { IsNextId ids.now.next_id server.new.now }
     ensures journal { IsJournal server.new.now }
@@ -47,6 +48,7 @@ fn put_at(
     node: Node,
     ids: &Counters,
 ) -> WebReply
+    requires journal { IsJournal server.old.now }
     requires identities { IsNextId ids.now.next_id server.old.now }
     requires parent { IsFolder (tree_of server.old.now) node.place.parent.0 }
     requires before { IsMoved (get (tree_of server.old.now) id.0) node }

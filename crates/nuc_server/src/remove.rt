@@ -22,6 +22,7 @@ pub(crate) fn remove(
     ids: &mut Counters,
 ) -> WebReply
     requires versions { IsNext ids.old.next_ver edits.old.now.edits }
+    requires journal { IsJournal server.old.now }
     requires identities { IsNextId ids.old.next_id server.old.now }
     ensures answers { RemoveAnswers server.old.now edits.old.now ids.old (place_in parent.0 name.now) result server.new.now edits.new.now ids.new }
     ensures versions { IsNext ids.new.next_ver edits.new.now.edits }
@@ -58,6 +59,7 @@ fn end_file(
     edits: &mut Edits,
     ids: &mut Counters,
 ) -> Result<u64, AllocError>
+    requires journal { IsJournal server.old.now }
     requires id { 0 < id.0 }
     requires legal { LegalCut (tree_of server.old.now) id.0 }
     requires versions { IsNext ids.old.next_ver edits.old.now.edits }

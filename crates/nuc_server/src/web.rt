@@ -40,8 +40,9 @@ impl LoopServer {
         ensures settled_blocks { store.new.settled ≡ store.old.settled }
         ensures settled_edits { edits.new.settled ≡ edits.old.settled }
     {
-        let tree = self.tree();
-        match follow(tree, path_of(edit).names.as_slice()) {
+        // Contracts learn from it that the entries make a journal.
+        let _ = self.journal();
+        match follow(self.tree(), path_of(edit).names.as_slice()) {
             Some((parent, name)) => {
                 self.web_at(alloc, edit, parent, name, store, edits, ids)
             }
@@ -60,6 +61,7 @@ impl LoopServer {
         edits: &mut Edits,
         ids: &mut Counters,
     ) -> WebReply
+        requires journal { IsJournal self.old.now }
         requires folder { IsFolder (tree_of self.old.now) parent.0 }
         requires versions { IsNext ids.old.next_ver edits.old.now.edits }
         requires identities { IsNextId ids.old.next_id self.old.now }

@@ -32,6 +32,7 @@ pub(crate) fn write(
 ) -> WebReply
     requires folder { IsFolder (tree_of server.old.now) parent.0 }
     requires versions { IsNext ids.old.next_ver edits.old.now.edits }
+    requires journal { IsJournal server.old.now }
     requires identities { IsNextId ids.old.next_id server.old.now }
     ensures answers { WriteAnswers (record { entries = server.old.now; blocks = store.old.now; edits = edits.old.now; ids = ids.old }) (place_in parent.0 name.now) bytes.now result (record { entries = server.new.now; blocks = store.new.now; edits = edits.new.now; ids = ids.new }) }
     ensures versions { IsNext ids.new.next_ver edits.new.now.edits }
@@ -64,6 +65,7 @@ fn write_new(
     requires folder { IsFolder (tree_of server.old.now) parent.0 }
     requires vacant { IsVacant (tree_of server.old.now) (place_in parent.0 name.now) }
     requires versions { IsNext ids.old.next_ver edits.old.now.edits }
+    requires journal { IsJournal server.old.now }
     requires identities { IsNextId ids.old.next_id server.old.now }
     ensures answers { WritesNew (record { entries = server.old.now; blocks = store.old.now; edits = edits.old.now; ids = ids.old }) (place_in parent.0 name.now) bytes.now result (record { entries = server.new.now; blocks = store.new.now; edits = edits.new.now; ids = ids.new }) }
     ensures versions { IsNext ids.new.next_ver edits.new.now.edits }
@@ -115,6 +117,7 @@ fn write_over(
 ) -> WebReply
     requires node { get (tree_of server.old.now) id.0 ≡ Some node }
     requires versions { IsNext ids.old.next_ver edits.old.now.edits }
+    requires journal { IsJournal server.old.now }
     requires identities { IsNextId ids.old.next_id server.old.now }
     ensures answers { WritesOver (record { entries = server.old.now; blocks = store.old.now; edits = edits.old.now; ids = ids.old }) id.0 node bytes.now result (record { entries = server.new.now; blocks = store.new.now; edits = edits.new.now; ids = ids.new }) }
     ensures versions { IsNext ids.new.next_ver edits.new.now.edits }
@@ -160,6 +163,7 @@ fn put_version(
     edits: &mut Edits,
     ids: &mut Counters,
 ) -> Result<u64, AllocError>
+    requires journal { IsJournal server.old.now }
     requires id { 0 < id.0 }
     requires file { node.kind ≡ Kind.File }
     requires kind { HadKind server.old.now id.0 Kind.File }
