@@ -10,7 +10,9 @@ use Rattle.nuc_journal.specs.declared.entry.Entry.{Entry}
 use Rattle.nuc_journal.proofs.Ends.{other_no, last_stands}
 use Rattle.nuc_journal.proofs.Lists.{push_cases}
 use Rattle.nuc_server.specs.Judge.{next_entry}
-use Rattle.nuc_server.specs.WebEdits.{IsNextId, Enters}
+use Rattle.nuc_server.specs.WebEdits.{IsNextId, Enters, EnterAnswers}
+use Rattle.nuc_server.specs.declared.web_edit.WebReply.{WebReply}
+use Rattle.nuc_server.specs.declared.web_edit.WebReply.TheVariants as reply
 
 -- entries of others alone
 Others : List Entry → ℕ → Type 0
@@ -67,3 +69,15 @@ module _ (next : ℕ) (es : List Entry) (fresh : IsNextId next es) where
       | inr (end, same) ↦ (let own : x ≡ e.id.0 = ap (λ (f : Entry). f.id.0) same in omega (arith, own, less))
     ];
   })
+
+  -- after any answer to a value of an identity below it
+  pub next_answered : (x : ℕ) (value : Option Node) (answer : WebReply) (now : List Entry) → x < next → EnterAnswers es x value answer now → IsNextId next now
+  next_answered x value (reply.Accepted rev) now less entered = next_push next x value rev now less (omega arith) entered
+  next_answered x value reply.Memory now less same = rw same fresh
+  next_answered x value reply.Same now less none = absurd none
+  next_answered x value reply.NoSuch now less none = absurd none
+  next_answered x value reply.NoParent now less none = absurd none
+  next_answered x value (reply.Taken y) now less none = absurd none
+  next_answered x value reply.Cycle now less none = absurd none
+  next_answered x value reply.NotEmpty now less none = absurd none
+  next_answered x value reply.KindChanged now less none = absurd none

@@ -1,3 +1,4 @@
+mod Following
 mod Fresh
 pub mod Judging
 mod Putting

@@ -13,6 +13,7 @@ use Rattle.nuc_base.proofs.Maps.{not_both, one_node}
 use Rattle.nuc_journal.specs.Entries.{kind_of, tree_of}
 use Rattle.nuc_journal.specs.Journal.{HadKind, IsJournal}
 use Rattle.nuc_journal.specs.declared.entry.Entry.{Entry}
+use Rattle.nuc_server.specs.WebEdits.{IsMoved}
 use Rattle.nuc_server.proofs.Judging.{kind_there}
 
 -- an identity without a node gets one at a place that nobody has
@@ -44,3 +45,8 @@ any_kind es x kind none = rw none tt
 -- what has a node is of its kind
 pub own_kind : (es : List Entry) (x : ℕ) (n : Node) (kind : Kind) → IsJournal es → tree.get (tree_of es) x ≡ Some n → kind ≡ n.kind → HadKind es x kind
 own_kind es x n kind journal at same = rw (kind_there es x n journal at) (sym same)
+
+-- a node that was moved was there
+pub moved_from : (before : Option Node) (node : Node) → IsMoved before node → (n : Node) × (before ≡ Some n) × (node.kind ≡ n.kind)
+moved_from None node none = absurd none
+moved_from (Some n) node (kind, ver, bit) = (n, refl, kind)
