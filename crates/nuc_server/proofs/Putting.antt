@@ -1,5 +1,5 @@
 -- Which nodes the web's edits may put.
-use Rattle.std.proofs.Common.{◌≡◌, ◌<◌, ℕ, Bool, List, Option, None, Some, IfSome, refl, sym, ap, subst, ◌∙◌, arith}
+use Rattle.std.proofs.Common.{◌≡◌, ◌<◌, ℕ, Bool, List, Option, None, Some, IfSome, refl, sym, ap, subst, ◌∙◌, inl, inr, arith}
 use Rattle.std.specs.FinMap as tree
 use Rattle.nuc_base.specs.Kinds.{Fits, FitsKind}
 use Rattle.nuc_base.specs.Legal.{LegalPut}
@@ -9,7 +9,7 @@ use Rattle.nuc_base.specs.declared.node.Kind.TheVariants.{Folder, File}
 use Rattle.nuc_base.specs.declared.node.Node.{Node}
 use Rattle.nuc_base.proofs.Alike.{under_absent}
 use Rattle.nuc_base.proofs.Depths.{no_loop}
-use Rattle.nuc_base.proofs.Maps.{not_both, one_node}
+use Rattle.nuc_base.proofs.Maps.{not_both, one_node, same_or_not}
 use Rattle.nuc_journal.specs.Entries.{kind_of, tree_of}
 use Rattle.nuc_journal.specs.Journal.{HadKind, IsJournal}
 use Rattle.nuc_journal.specs.declared.entry.Entry.{Entry}
@@ -50,3 +50,10 @@ own_kind es x n kind journal at same = rw (kind_there es x n journal at) (sym sa
 pub moved_from : (before : Option Node) (node : Node) → IsMoved before node → (n : Node) × (before ≡ Some n) × (node.kind ≡ n.kind)
 moved_from None node none = absurd none
 moved_from (Some n) node (kind, ver, bit) = (n, refl, kind)
+
+-- the root has no node
+pub above_root : (m : Nodes) (x : ℕ) (n : Node) → WellFormed m → tree.get m x ≡ Some n → 0 < x
+above_root m x n form at = elim (same_or_not x 0) [
+  | inl root ↦ absurd (not_both m 0 n form.no_root (subst (λ y. tree.get m y ≡ Some n) root at))
+  | inr apart ↦ omega (arith, apart)
+]

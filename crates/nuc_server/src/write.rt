@@ -81,8 +81,11 @@ fn write_new(
     let Ok(node) = new_file(alloc, parent, name) else {
         return WebReply::Memory;
     };
+    let Ok(content) = content_of(alloc, bytes) else {
+        return WebReply::Memory;
+    };
     let id = NodeId(ids.next_id);
-    match put_version(server, alloc, id, node, bytes, store, edits, ids) {
+    match put_version(server, alloc, id, node, bytes, content, store, edits, ids) {
         Ok(rev) => {
             ids.next_id = next_id;
             WebReply::Accepted(rev)
@@ -136,7 +139,7 @@ fn write_over(
     if has_hash(edits.content(node.ver), &content) {
         return WebReply::Same;
     }
-    match put_version(server, alloc, id, node, bytes, store, edits, ids) {
+    match put_version(server, alloc, id, node, bytes, content, store, edits, ids) {
         Ok(rev) => WebReply::Accepted(rev),
         Err(_) => WebReply::Memory,
     }
@@ -152,13 +155,14 @@ fn has_hash(known: Option<&Content>, content: &Content) -> bool
     }
 }
 
-/// Gives an identity this file's node, but with the next version, whose content has these bytes.
+/// Gives an identity this file's node, but with the next version, whose content this is, of these bytes.
 fn put_version(
     server: &mut LoopServer,
     alloc: Global,
     id: NodeId,
     mut node: Node,
     bytes: &[u8],
+    content: Content,
     store: &mut Store,
     edits: &mut Edits,
     ids: &mut Counters,
@@ -168,6 +172,7 @@ fn put_version(
     requires file { node.kind ≡ Kind.File }
     requires kind { HadKind server.old.now id.0 Kind.File }
     requires legal { LegalPut (tree_of server.old.now) id.0 node }
+    requires content { content ≡ hash.content_of bytes.now }
     requires versions { IsNext ids.old.next_ver edits.old.now.edits }
     ensures ok { IfOk result (λ rev. Writes (record { entries = server.old.now; blocks = store.old.now; edits = edits.old.now; ids = ids.old }) id.0 (record node { ver = record { 0 = ids.old.next_ver } }) node.ver.0 bytes.now rev (record { entries = server.new.now; blocks = store.new.now; edits = edits.new.now; ids = ids.new })) }
     ensures ids { IfOk result (λ _. ids.new ≡ record ids.old { next_ver = ids.old.next_ver + 1 }) }
@@ -178,7 +183,6 @@ fn put_version(
     ensures settled_blocks { store.new.settled ≡ store.old.settled }
     ensures settled_edits { edits.new.settled ≡ edits.old.settled }
 {
-    let content = content_of(alloc, bytes)?;
     server.reserve(alloc)?;
     keep_blocks(store, alloc, bytes, content.blocks())?;
     let ver = edits.enter(ids, id, node.ver, EditKind::Put(content))?;
