@@ -13,6 +13,8 @@ mod server;
 mod undo;
 mod web;
 mod web_edit;
+#[cfg(test)]
+mod web_tests;
 mod write;
 
 pub use commit::{Commit, CommitReply, Refusal};

@@ -43,9 +43,7 @@ impl LoopServer {
         // Contracts learn from it that the entries make a journal.
         let _ = self.journal();
         match follow(self.tree(), path_of(edit).names.as_slice()) {
-            Some((parent, name)) => {
-                self.web_at(alloc, edit, parent, name, store, edits, ids)
-            }
+            Some((parent, name)) => { self.web_at(alloc, edit, parent, name, store, edits, ids) }
             None => WebReply::NoParent,
         }
     }
@@ -76,7 +74,16 @@ impl LoopServer {
         match edit {
             WebEdit::Mkdir(_) => mkdir(self, alloc, parent, name, ids),
             WebEdit::Write(_, filling) => {
-                write(self, alloc, parent, name, filling.bytes(), store, edits, ids)
+                write(
+                    self,
+                    alloc,
+                    parent,
+                    name,
+                    filling.bytes(),
+                    store,
+                    edits,
+                    ids,
+                )
             }
             WebEdit::Move(_, to) => relocate(self, alloc, parent, name, to, ids),
             WebEdit::Remove(_) => remove(self, alloc, parent, name, edits, ids),

@@ -28,13 +28,12 @@ loop-digest-preserved c =
     let given = c.in_ok-put_known.ensures.blocks in
     let digest = get_or c.args.digests.now i none in
     let put : after ≡ stored digest c.split_at.result.0.now before = ap (λ (s : StoreState). s.now) given in
-    let same : after ≡ stored digest (take c.min.result rest) before = put ∙ ap (λ (bytes : List ℕ). stored digest bytes before) c.split_at.ensures.front in
-    (
+    let same : after ≡ stored digest (take c.min.result rest) before = put ∙ ap (λ (bytes : List ℕ). stored digest bytes before) c.split_at.ensures.front in (
       other_digests c.args.digests.now i rest none c.min.result c.loop-digest-test.true c.loop-digest.invariant.0 c.min.ensures
-        ∙ ap (λ (bytes : List ℕ). map digest_of (blocks_of bytes)) (sym c.split_at.ensures.back),
+          ∙ ap (λ (bytes : List ℕ). map digest_of (blocks_of bytes)) (sym c.split_at.ensures.back),
       ap (λ (bytes : List ℕ). all_stored (blocks_of bytes) after) c.split_at.ensures.back
-        ∙ first_stored c.args.digests.now i rest none c.min.result c.loop-digest-test.true c.loop-digest.invariant.0 c.min.ensures before after same
-        ∙ c.loop-digest.invariant.1,
+          ∙ first_stored c.args.digests.now i rest none c.min.result c.loop-digest-test.true c.loop-digest.invariant.0 c.min.ensures before after same
+          ∙ c.loop-digest.invariant.1,
       keeps_more c.args.store.now.now before after digest c.split_at.result.0.now c.loop-digest.invariant.2 put,
       ap (λ (s : StoreState). s.settled) given ∙ c.loop-digest.invariant.3,
     )

@@ -21,9 +21,11 @@ enter-reply-requires-clause-legal c =
     let next = c.args.ids.now.next_id in
     let node = folder_at (place_in c.args.parent.0 c.args.name.now) in
     let vacant = subst (λ (m : Nodes). IsVacant m node.place) c.tree.ensures.nodes c.in_default.ensures in
-    subst (λ (n : Node). FitsKind n × LegalPut (tree_of es) next n) (sym c.in-Ok.ensures)
-    ((refl, refl), legal_new (tree_of es) next node (subst WellFormed c.tree.ensures.nodes c.tree.ensures.form) c.requires.identities.some
-      (nobody next es c.requires.identities) c.requires.folder vacant)
+    subst (λ (n : Node). FitsKind n × LegalPut (tree_of es) next n) (sym c.in-Ok.ensures) (
+      (refl, refl),
+      legal_new (tree_of es) next node (subst WellFormed c.tree.ensures.nodes c.tree.ensures.form) c.requires.identities.some
+          (nobody next es c.requires.identities) c.requires.folder vacant,
+    )
 
 pub returns-in-Accepted-clause-identities : goal.returns-in-Accepted-clause-identities
 returns-in-Accepted-clause-identities c =

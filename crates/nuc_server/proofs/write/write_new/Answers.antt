@@ -19,7 +19,7 @@ put_version-requires-clause-legal c =
     let next = c.args.ids.now.next_id in
     subst (λ (n : Node). LegalPut (tree_of es) next n) (sym c.in-Ok.ensures)
     (legal_new (tree_of es) next (file_at (place_in c.args.parent.0 c.args.name.now) 0) (form_of es c.requires.journal) c.requires.identities.some
-      (nobody next es c.requires.identities) c.requires.folder c.requires.vacant)
+    (nobody next es c.requires.identities) c.requires.folder c.requires.vacant)
 
 pub returns-in-Ok-put_version-clause-identities : goal.returns-in-Ok-put_version-clause-identities
 returns-in-Ok-put_version-clause-identities c =

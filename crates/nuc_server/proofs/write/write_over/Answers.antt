@@ -30,4 +30,4 @@ returns-in-Ok-put_version-clause-identities c =
     let now = c.put_version.new.server.now in
     subst (λ i. IsNextId i now) (sym (ap (λ (ids : Counters). ids.next_id) c.in-Ok-put_version.ensures.ids))
     (next_push next es c.requires.identities next x _ _ now (below next es c.requires.identities x c.args.node c.requires.node) (omega arith)
-      c.in-Ok-put_version.ensures.ok.entries)
+    c.in-Ok-put_version.ensures.ok.entries)
