@@ -78,6 +78,25 @@ impl Store {
         Ok(())
     }
 
+    /// As `put`, with bytes that are known to have the digest: they aren't hashed, and only memory can be wanted.
+    pub fn put_known(
+        &mut self,
+        alloc: Global,
+        digest: &Digest,
+        bytes: &[u8],
+    ) -> Result<(), AllocError>
+        requires { IsBlock digest.now bytes.now }
+        ensures blocks { OnOk result (self.new ≡ record self.old { now = stored digest.now bytes.now self.old.now }) }
+        ensures err { OnErr result (self.new ≡ self.old) }
+        ensures formed { AreBlocks self.new.now }
+    {
+        if self.has(digest) {
+            return Ok(());
+        }
+        self.add(digest, Items::from_slice(alloc, bytes)?)?;
+        Ok(())
+    }
+
     /// Whether a block stands under the digest, where the bytes can stand there. They are hashed once.
     fn keeps(&self, digest: &Digest, bytes: &[u8]) -> Result<bool, StoreFault>
         ensures block { OnOk result (IsBlock digest.now bytes.now) }

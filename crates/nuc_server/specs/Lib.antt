@@ -1,3 +1,6 @@
 pub mod Judge
+pub mod Paths
 pub mod State
 pub mod Undo
+pub mod Web
+pub mod WebEdits
