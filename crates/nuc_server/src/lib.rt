@@ -5,6 +5,7 @@ mod bit;
 mod commit;
 mod judge;
 mod keep;
+mod laws;
 mod mkdir;
 mod path;
 mod relocate;
@@ -16,5 +17,6 @@ mod web_edit;
 mod write;
 
 pub use commit::{Commit, CommitReply, Refusal};
+pub use laws::has_one_web_answer;
 pub use server::{LoopServer, ServerTree};
 pub use web_edit::{WebEdit, WebReply};
