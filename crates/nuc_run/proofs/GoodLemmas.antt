@@ -1,5 +1,5 @@
 -- What the steps of a script keep.
-use Rattle.std.proofs.Common.{◌≡◌, ◌≢◌, ◌<◌, ◌+◌, ◌==◌, ℕ, zero, suc, true, false, cond, List, [], ◌∷◌, ◌++◌, length, map, find, insert, slice_index_or, Option, None, Some, Result, Ok, Err, is_err, true≢false, OnOk, OnErr, refl, sym, ◌∙◌, ap, subst, inl, inr, arith, length-append}
+use Rattle.std.proofs.Common.{◌≡◌, ◌≢◌, ◌<◌, ◌+◌, ◌==◌, ℕ, zero, suc, true, false, cond, List, [], ◌∷◌, ◌++◌, length, map, find, insert, slice_index_or, Option, None, Some, IsSome, Result, Ok, Err, is_err, true≢false, OnOk, OnErr, refl, sym, ◌∙◌, ap, subst, inl, inr, arith, length-append}
 use Rattle.std.specs.List.{AllPairs}
 use Rattle.std.specs.Ordering.{nat_cmp}
 use Rattle.std.specs.FinMap as tree
@@ -24,11 +24,12 @@ use Rattle.nuc_folder.specs.declared.user.UserReply.{UserReply}
 use Rattle.nuc_folder.specs.declared.user.UserReply.TheVariants as reply
 use Rattle.nuc_class.specs.declared.op.Op.{Op}
 use Rattle.nuc_base.specs.declared.change.Change.TheVariants.{Put}
+use Rattle.std.specs.Result.{is_err}
 use Rattle.nuc_run.specs.declared.client.Binding.{Binding}
-use Rattle.nuc_run.specs.declared.entry.Entry.{Entry}
-use Rattle.nuc_run.specs.Good.{IsAmong, AreNamedElse, AreApart, IsBound, IsObserved, AreKept, InStep, Good, IsUpload}
+use Rattle.nuc_journal.specs.declared.entry.Entry.{Entry}
+use Rattle.nuc_run.specs.Good.{AllPut, IsAmong, AreNamedElse, AreApart, IsBound, IsObserved, AreKept, InStep, Good, IsUpload}
 use Rattle.nuc_run.specs.Scan.{key_of}
-use Rattle.nuc_run.specs.Server.{tree_of}
+use Rattle.nuc_journal.specs.Entries.{tree_of}
 use Rattle.nuc_run.specs.State.{State, fresh}
 use Rattle.nuc_run.specs.World.{at_rest}
 use Rattle.nuc_run.specs.declared.world.World.{World}
@@ -51,6 +52,7 @@ good_fresh = record {
     remote_form = empty_form;
     synced_form = empty_form;
     served = refl;
+    puts = tt;
     pulled = refl;
     cursor_is = refl;
     within = λ x n e. absurd (not_both tree.empty x n (get-empty nat_cmp x) e);
@@ -148,6 +150,10 @@ found_file (f ∷ fs) a (inr there) =
       | false ↦ rest
     ]
 
+put_more : (es : List Entry) (e : Entry) → IsSome e.value → AllPut es → AllPut (es ++ e ∷ [])
+put_more [] e some puts = (some, tt)
+put_more (f ∷ fs) e some puts = (puts.0, put_more fs e some puts.1)
+
 -- UPLOADS
 module _ (s : State) (good : Good s) (op : Op) (up : IsUpload s.client.local s.client.synced op) where
   pub upload_bound : IsBound s.client.keys (listing s.folder) op.id.0 up.node
@@ -181,6 +187,7 @@ module _ (s : State) (good : Good s) (op : Op) (up : IsUpload s.client.local s.c
   upload_keeps server remote synced cursor accepted remote_form synced_form remote_is synced_is moved = record {
     remote_form = remote_form;
     synced_form = synced_form;
+    puts = subst AllPut (sym accepted) (put_more s.server (next_entry s.server op.id.0 up.node) refl good.step.puts);
     served = ap tree_of accepted ∙ tree_of-accepted s.server op.id.0 up.node ∙ ap (λ m. tree.insert m op.id.0 up.node) good.step.served ∙ sym synced_is;
     pulled = remote_is ∙ ap (λ m. tree.insert m op.id.0 up.node) good.step.pulled ∙ sym synced_is;
     cursor_is =
@@ -197,6 +204,10 @@ module _ (s : State) (good : Good s) (op : Op) (up : IsUpload s.client.local s.c
 pub on_ok : {T E P : Type 0} (r : Result T E) → P → OnOk r P
 on_ok (Ok x) p = p
 on_ok (Err e) p = tt
+
+pub went_badly : {T E P : Type 0} (r : Result T E) → true ≡ is_err r → OnErr r P → P
+went_badly (Ok x) bad holds = absurd (let clash : true ≡ false = bad in cc)
+went_badly (Err e) bad holds = holds
 
 pub went_well : {T E P : Type 0} (r : Result T E) → false ≡ is_err r → OnOk r P → P
 went_well (Ok x) same p = p
@@ -256,17 +267,19 @@ good_scanned s items local keys edits ids good same fits kept = record {
     remote_form = good.step.remote_form;
     synced_form = good.step.synced_form;
     served = good.step.served;
+    puts = good.step.puts;
     pulled = good.step.pulled;
     cursor_is = good.step.cursor_is;
     within = λ x n at. kept x n (good.step.within x n at);
   };
 }
 
-pub fresh_world : (w : World) → w.server ≡ [] → (edits : EditsState) → w.edits ≡ edits → edits.now.edits ≡ [] → w.ids ≡ record { next_id = 1; next_ver = 1 } → w.folder ≡ record { files = []; next_key = 1 }
+pub fresh_world : (w : World) → w.server.now ≡ [] → w.store.now ≡ [] → (edits : EditsState) → w.edits ≡ edits → edits.now.edits ≡ [] → w.ids ≡ record { next_id = 1; next_ver = 1 } → w.folder ≡ record { files = []; next_key = 1 }
     → w.client.remote.nodes ≡ tree.empty → w.client.local.nodes ≡ tree.empty → w.client.synced.nodes ≡ tree.empty
     → w.client ≡ record w.client { keys = []; cursor = 0; changes = 0; next_op = 1 } → at_rest w ≡ fresh
-fresh_world w server edits same none ids folder remote local synced others = λ i. record {
+fresh_world w server blocks edits same none ids folder remote local synced others = λ i. record {
   server = server i;
+  blocks = blocks i;
   edits = (ap (λ (e : EditsState). e.now.edits) same ∙ none) i;
   ids = ids i;
   folder = folder i;

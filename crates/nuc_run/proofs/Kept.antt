@@ -7,9 +7,9 @@ use Rattle.nuc_base.specs.declared.change.Change.TheVariants.{Put}
 use Rattle.nuc_edits.specs.declared.edit.Edit.{Edit}
 use Rattle.nuc_folder.specs.Formed.{IsFormed}
 use Rattle.nuc_folder.specs.declared.item.Item.{Item}
-use Rattle.nuc_run.specs.declared.entry.Entry.{Entry}
+use Rattle.nuc_journal.specs.declared.entry.Entry.{Entry}
 use Rattle.nuc_run.specs.Good.{AreKept, IsAmong, IsObserved}
-use Rattle.nuc_run.specs.Server.{tree_of}
+use Rattle.nuc_journal.specs.Entries.{tree_of}
 use Rattle.nuc_run.specs.State.{Flight, Listing, Stage, State, planned, started, taken}
 use Rattle.nuc_run.specs.Step.{listing}
 use Rattle.nuc_run.proofs.GoodLemmas.{Stays}

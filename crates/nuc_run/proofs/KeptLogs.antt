@@ -21,7 +21,7 @@ use Rattle.nuc_step.specs.declared.reply.Reply.TheVariants as reply
 use Rattle.nuc_run.specs.Good.{AreKept}
 use Rattle.nuc_run.specs.Plan.{batch, due_at, numbered}
 use Rattle.nuc_run.specs.Runs.{IsEarlyLog, IsWholeLog, Leads, opening}
-use Rattle.nuc_run.specs.Server.{tree_of}
+use Rattle.nuc_journal.specs.Entries.{tree_of}
 use Rattle.nuc_run.specs.Sound.{AreEqual, FitsPlan, HasVersion, IsExactThroughout, IsSound, IsSoundThroughout, PlansExactly}
 use Rattle.nuc_run.specs.State.{State, fresh}
 use Rattle.nuc_run.specs.Step.{Answers, after, planned_batch}

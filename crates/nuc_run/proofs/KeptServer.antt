@@ -10,9 +10,9 @@ use Rattle.nuc_base.specs.Trees.{Nodes, WellFormed}
 use Rattle.nuc_base.specs.declared.node.Node.{Node}
 use Rattle.nuc_base.proofs.Forms.{put_keeps}
 use Rattle.nuc_base.proofs.Maps.{after_cut, after_put, get_put_other, get_put_same, not_both, one_node, same_or_not}
-use Rattle.nuc_run.specs.declared.entry.Entry.{Entry}
+use Rattle.nuc_journal.specs.declared.entry.Entry.{Entry}
 use Rattle.nuc_run.specs.Good.{AreKept}
-use Rattle.nuc_run.specs.Server.{tree_of, tree_after, with_value}
+use Rattle.nuc_journal.specs.Entries.{tree_of, tree_after, with_value}
 use Rattle.nuc_run.specs.State.{Flight, Stage, planned, started, taken}
 use Rattle.nuc_run.specs.Step.{flight_of, staged, without}
 use Rattle.nuc_run.proofs.Kept.{AllFly, AllFormed, IsFlying, IsReached, IsTakenAs}

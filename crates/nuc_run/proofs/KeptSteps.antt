@@ -14,11 +14,11 @@ use Rattle.nuc_folder.proofs.Formed.{formed-edited, formed-empty}
 use Rattle.nuc_folder.specs.declared.user.UserEdit.{UserEdit}
 use Rattle.nuc_step.specs.declared.event.Event.{Event}
 use Rattle.nuc_step.specs.declared.event.Event.TheVariants as event
-use Rattle.nuc_run.specs.declared.entry.Entry.{Entry}
+use Rattle.nuc_journal.specs.declared.entry.Entry.{Entry}
 use Rattle.nuc_run.specs.Good.{AreKept}
 use Rattle.nuc_run.specs.Plan.{due_at, numbered}
 use Rattle.nuc_run.specs.Scan.{observed}
-use Rattle.nuc_run.specs.Server.{tree_of, tree_after}
+use Rattle.nuc_journal.specs.Entries.{tree_of, tree_after}
 use Rattle.nuc_run.specs.State.{Flight, Listing, Stage, State, fresh, planned, started, taken}
 use Rattle.nuc_folder.specs.Write.{edited}
 use Rattle.nuc_run.specs.Step.{after, after_done, after_list, after_plan, after_pull, after_scan, after_start, after_take, as_planned, before_listing, bytes_for, done_at, done_by, flight_of, listing, news, next_entry, page, planned_batch, read_by, staged, take_at, taken_by, with_started, without}

@@ -7,6 +7,7 @@ pub mod BatchLemmas
 pub mod ScanLemmas
 pub mod GoodLemmas
 pub mod OutcomeLemmas
+pub mod CommitLemmas
 pub mod UploadAnswers
 pub mod BatchRun
 pub mod SyncLemmas

@@ -1,6 +1,8 @@
 -- What holds between the steps of a script, where nothing but whole batches is in flight.
-use Rattle.std.specs.Prelude.{◌≡◌, ◌≢◌, ◌⊎◌, ℕ, ◌<◌, ◌≤◌, List, [], ◌∷◌, ◌++◌, length, Option, None, Some}
+use Rattle.std.specs.Prelude.{◌≡◌, ◌≢◌, ◌⊎◌, ℕ, ◌<◌, ◌≤◌, List, [], ◌∷◌, ◌++◌, length, slice_get, ◌-◌, Option, None, Some, IsSome}
 use Rattle.std.specs.FinMap as tree
+use Rattle.nuc_base.specs.Kinds.{FitsKind}
+use Rattle.nuc_base.specs.Legal.{LegalPut}
 use Rattle.nuc_base.specs.SamePlace.{SameName}
 use Rattle.nuc_base.specs.declared.node.Counters.{Counters}
 use Rattle.nuc_base.specs.declared.node.Node.{Node}
@@ -18,13 +20,14 @@ use Rattle.nuc_step.specs.declared.log.LogEntry.{LogEntry}
 use Rattle.nuc_step.specs.declared.log.LogEntry.TheVariants as entry
 use Rattle.nuc_step.specs.declared.reply.PlanReply.{PlanReply}
 use Rattle.nuc_step.specs.declared.reply.PlanReply.TheVariants as plan
+use Rattle.nuc_step.specs.declared.reply.Reply.{Reply}
 use Rattle.nuc_step.specs.declared.reply.Reply.TheVariants as reply
 use Rattle.nuc_step.specs.declared.reply.StartReply.TheVariants as start
 use Rattle.nuc_run.specs.declared.client.Binding.{Binding}
-use Rattle.nuc_run.specs.declared.entry.Entry.{Entry}
+use Rattle.nuc_journal.specs.declared.entry.Entry.{Entry}
 use Rattle.nuc_run.specs.State.{State}
 use Rattle.nuc_run.specs.Scan.{key_of}
-use Rattle.nuc_run.specs.Server.{tree_of}
+use Rattle.nuc_journal.specs.Entries.{kind_of, revision_of, tree_of}
 use Rattle.nuc_run.specs.Step.{bytes_of_key, listing}
 
 -- the item is one of them
@@ -62,11 +65,17 @@ pub record IsObserved (items : List Item) (local : Nodes) (keys : List Binding) 
 abbrev pub AreKept : Nodes → Nodes → Type 0
 AreKept m k = (x : ℕ) (n : Node) → tree.get m x ≡ Some n → tree.get k x ≡ Some n
 
+-- no entry is a deletion
+abbrev pub AllPut : List Entry → Type 0
+AllPut [] = Unit {0}
+AllPut (e ∷ es) = IsSome e.value × AllPut es
+
 -- Remote, Synced and the server are one tree, which Local has too
 pub record InStep (server : List Entry) (remote local synced : Nodes) (cursor : ℕ) : Type 0 where
   pub remote_form : WellFormed remote
   pub synced_form : WellFormed synced
   pub served : tree_of server ≡ synced
+  pub puts : AllPut server
   pub pulled : remote ≡ synced
   pub cursor_is : cursor ≡ length server
   pub within : AreKept synced local
@@ -115,6 +124,32 @@ pub record HasThem (old new : Nodes) (ops : List Op) : Type 0 where
 abbrev pub IsPlanned : List Op → PlanReply → Type 0
 IsPlanned ops plan.Empty = ops ≡ []
 IsPlanned ops (plan.Batch copies) = (copies ≡ ops) × (ops ≢ [])
+
+-- the server accepts the operation's node: the identity is new to it, and the node legal
+pub record IsNewCommit (s : State) (op : Op) (node : Node) : Type 0 where
+  pub id : 0 < op.id.0
+  pub base : op.base ≡ 0
+  pub fits : FitsKind node
+  pub legal : LegalPut (tree_of s.server) op.id.0 node
+  pub current : revision_of s.server op.id.0 ≡ 0
+  pub no_kind : kind_of s.server op.id.0 ≡ None
+
+-- the bytes that a reply has read, none where it read nothing
+abbrev pub bytes_in : Reply → List ℕ
+bytes_in (reply.Started (start.Ok (Some bytes))) = bytes
+bytes_in _ = []
+
+abbrev pub read_of : LogEntry → List ℕ
+read_of (entry.Opened clients kept) = []
+read_of (entry.Stepped e r) = bytes_in r
+
+abbrev pub read_by_any : Option LogEntry → List ℕ
+read_by_any None = []
+read_by_any (Some e) = read_of e
+
+-- those that the last entry has read
+abbrev pub last_read : List LogEntry → List ℕ
+last_read es = read_by_any (slice_get es (length es - 1))
 
 -- a start has read the bytes of the file of this key, and its entry has them
 pub record HasRead (folder : FolderData) (key : Option ℕ) (number : ℕ) (old new : List LogEntry) : Type 0 where

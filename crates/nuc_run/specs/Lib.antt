@@ -1,5 +1,4 @@
 pub mod State
-pub mod Server
 pub mod Scan
 pub mod Plan
 pub mod Step

@@ -16,7 +16,7 @@ use Rattle.nuc_script.specs.declared.command.Command.{Command}
 use Rattle.nuc_script.specs.declared.script_read.ScriptRead.TheVariants as read
 use Rattle.nuc_step.specs.declared.log.LogEntry.{LogEntry}
 use Rattle.nuc_run.specs.State.{State}
-use Rattle.nuc_run.specs.Server.{tree_of}
+use Rattle.nuc_journal.specs.Entries.{tree_of}
 use Rattle.nuc_run.specs.Step.{listing}
 use Rattle.nuc_run.specs.Runs.{IsEarlyLog, IsWholeLog, Reaches}
 

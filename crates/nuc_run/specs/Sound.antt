@@ -11,7 +11,7 @@ use Rattle.nuc_step.specs.declared.reply.PlanReply.{PlanReply}
 use Rattle.nuc_step.specs.declared.reply.PlanReply.TheVariants as plan
 use Rattle.nuc_step.specs.declared.reply.Reply.TheVariants as reply
 use Rattle.nuc_run.specs.Runs.{Leads, opening}
-use Rattle.nuc_run.specs.Server.{tree_of}
+use Rattle.nuc_journal.specs.Entries.{tree_of}
 use Rattle.nuc_run.specs.State.{ClientState, State, fresh}
 
 -- a node of the tree has the version

@@ -1,14 +1,15 @@
--- What a run changes: the server, the recorded edits, the counters, the client and its folder.
+-- What a run changes: the server with its blocks, the recorded edits, the counters, the client and its folder.
 use Rattle.std.specs.Prelude.{ℕ, List, [], Option, None}
 use Rattle.std.specs.FinMap as map
 use Rattle.nuc_base.specs.declared.node.Counters.{Counters}
 use Rattle.nuc_base.specs.Trees.{Nodes}
+use Rattle.nuc_blocks.specs.Blocks.{Blocks}
 use Rattle.nuc_edits.specs.declared.edit.Edit.{Edit}
 use Rattle.nuc_class.specs.declared.op.Op.{Op}
 use Rattle.nuc_folder.specs.Folder.{FolderData}
 use Rattle.nuc_folder.specs.declared.item.Item.{Item}
 use Rattle.nuc_run.specs.declared.client.Binding.{Binding}
-use Rattle.nuc_run.specs.declared.entry.Entry.{Entry}
+use Rattle.nuc_journal.specs.declared.entry.Entry.{Entry}
 
 -- a listing, and how often Local had changed when it was made
 pub record Listing : Type 0 where
@@ -39,6 +40,7 @@ pub record ClientState : Type 0 where
 
 pub record State : Type 0 where
   pub server : List Entry
+  pub blocks : Blocks
   pub edits : List Edit
   pub ids : Counters
   pub folder : FolderData
@@ -48,6 +50,7 @@ pub record State : Type 0 where
 abbrev pub fresh : State
 fresh = record {
   server = [];
+  blocks = [];
   edits = [];
   ids = record { next_id = 1; next_ver = 1 };
   folder = record { files = []; next_key = 1 };

@@ -12,6 +12,8 @@ use Rattle.nuc_folder.specs.Folder.{FolderData}
 use Rattle.nuc_folder.specs.Listing.{item_of, has_key}
 use Rattle.nuc_folder.specs.Write.{edited}
 use Rattle.nuc_folder.specs.declared.item.Item.{Item}
+use Rattle.nuc_hash.specs.Content.{blocks_of}
+use Rattle.nuc_server.specs.WebEdits.{all_stored}
 use Rattle.nuc_step.specs.declared.event.Event.{Event}
 use Rattle.nuc_step.specs.declared.event.Event.TheVariants as event
 use Rattle.nuc_step.specs.declared.reply.Reply.{Reply}
@@ -22,9 +24,9 @@ use Rattle.nuc_step.specs.declared.reply.StartReply.TheVariants as start
 use Rattle.nuc_step.specs.declared.reply.TakeReply.TheVariants as take_reply
 use Rattle.nuc_step.specs.declared.reply.DoneReply.TheVariants as done
 use Rattle.nuc_step.specs.declared.reply.MarkReply.TheVariants as mark
-use Rattle.nuc_run.specs.declared.entry.Entry.{Entry}
+use Rattle.nuc_journal.specs.declared.entry.Entry.{Entry}
 use Rattle.nuc_run.specs.State.{State, ClientState, Listing, Stage, planned, started, taken, Flight}
-use Rattle.nuc_run.specs.Server.{tree_after}
+use Rattle.nuc_journal.specs.Entries.{tree_after}
 use Rattle.nuc_run.specs.Scan.{Observed, observed, key_of}
 use Rattle.nuc_run.specs.Plan.{batch}
 
@@ -118,13 +120,15 @@ with_started w n (Some bytes) = with_client w (record w.client { flights = stage
 abbrev pub after_start : State → ℕ → State
 after_start w n = with_started w n (read_by w (flight_of n w.client.flights))
 
--- the server accepts a commit as its next revision; the file is a new one, so nothing can refuse it yet
+-- the blocks of what was read are stored, and the server accepts the commit as its next revision; the file is a new one, so
+-- nothing can refuse it yet
 abbrev pub next_entry : List Entry → ℕ → Node → Entry
 next_entry server x node = record { rev = length server + 1; id = record { 0 = x }; value = Some node; by = 1 }
 
 abbrev pub take_at : State → ℕ → ℕ → Stage → Change → State
 take_at w n x (started bytes) (Put node) = record w {
   server = w.server ++ next_entry w.server x node ∷ [];
+  blocks = all_stored (blocks_of bytes) w.blocks;
   client = record w.client { flights = staged n (taken (length w.server + 1)) w.client.flights };
 }
 take_at w n x _ _ = w

@@ -6,7 +6,8 @@ use Rattle.nuc_run.specs.declared.world.World.{World}
 -- with this listing held, and these operations in flight
 abbrev pub state_of : World → Option Listing → List Flight → State
 state_of w held flights = record {
-  server = w.server;
+  server = w.server.now;
+  blocks = w.store.now;
   edits = w.edits.now.edits;
   ids = w.ids;
   folder = w.folder;

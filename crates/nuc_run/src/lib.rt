@@ -2,11 +2,9 @@
 #![tactic(auto)]
 
 mod client;
-mod entry;
 mod plan;
 mod run;
 mod scan;
-mod server;
 #[cfg(test)]
 mod tests;
 mod world;

@@ -184,7 +184,7 @@ fn text_of(alloc: Global, world: &World, log: &Log) -> Result<String, AllocError
         folder: items.as_slice(),
     };
     let view = View {
-        revision: world.server.revision(),
+        revision: world.server.journal().last(),
         server: world.server.tree(),
         edits: &world.edits,
         client,

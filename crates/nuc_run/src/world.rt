@@ -5,15 +5,17 @@ ghost use Rattle.nuc_base.specs.Kinds.{FitsKind};
 ghost use Rattle.nuc_base.specs.Legal.{LegalPut};
 ghost use Rattle.nuc_base.specs.Names.{IsName};
 ghost use Rattle.nuc_base.specs.Trees.{WellFormed};
-ghost use Rattle.nuc_run.specs.Good.{AllUploads, AreApart, Good, HasRead, HasThem, IsHere, IsPlanned, IsPut, IsUpload};
+ghost use Rattle.nuc_blocks.specs.Blocks.{first_missing};
+ghost use Rattle.nuc_hash.specs.Content.{blocks_of, content_of};
+ghost use Rattle.nuc_run.specs.Good.{AllUploads, AreApart, Good, HasRead, HasThem, IsHere, IsNewCommit, IsPlanned, IsPut, IsUpload, bytes_in, last_read, read_of};
 ghost use Rattle.nuc_run.specs.Plan.{batch};
 ghost use Rattle.nuc_run.specs.Runs.{Began, Did};
 ghost use Rattle.nuc_run.specs.Scan.{key_of};
-ghost use Rattle.nuc_run.specs.Server.{tree_of};
 ghost use Rattle.nuc_run.specs.State.{Flight, fresh};
 ghost use Rattle.nuc_run.specs.Step.{as_planned, listing, next_entry};
 ghost use Rattle.nuc_run.specs.Tasks.{after_plan, once, plans, pulls, steps_of, tasks_of};
 ghost use Rattle.nuc_run.specs.World.{at_rest, state_of};
+ghost use Rattle.nuc_server.specs.WebEdits.{all_stored};
 ghost use Rattle.nuc_step.specs.declared.event.Event.TheVariants as event;
 ghost use Rattle.nuc_script.specs.declared.command.Command.TheVariants as command;
 ghost use Rattle.nuc_step.specs.declared.log.LogEntry.TheVariants as entry;
@@ -24,11 +26,13 @@ ghost use Rattle.nuc_step.specs.declared.reply.TakeReply.TheVariants as take_rep
 use crate::client::{Client, key_of};
 use crate::plan::batch;
 use crate::scan::observe;
-use crate::server::Server;
 use nuc_base::{Change, Counters, Node, put_legal};
+use nuc_blocks::Store;
 use nuc_class::Op;
 use nuc_edits::Edits;
 use nuc_folder::{Item, MemFolder, ReadBack, UserEdit, UserReply};
+use nuc_hash::{Content, content_of};
+use nuc_server::{Commit, CommitReply, LoopServer, keep_blocks};
 use nuc_step::{
     DoneReply, Event, Log, LogEntry, MarkReply, PlanReply, Reply, ScanReply, StartReply, TakeReply,
 };
@@ -39,9 +43,11 @@ use std::alloc::{AllocError, Global};
 pub const CLIENT: u32 = 1;
 
 /// Everything that a run changes.
-#[derive(Debug, Drop)]
+#[derive(Drop)]
 pub struct World {
-    pub server: Server,
+    pub server: LoopServer,
+    /// The blocks of all contents that the server has taken.
+    pub store: Store,
     pub edits: Edits,
     pub ids: Counters,
     pub folder: MemFolder,
@@ -55,7 +61,8 @@ impl World {
         ensures good { Good (at_rest result) }
     {
         World {
-            server: Server::new(alloc),
+            server: LoopServer::new(alloc),
+            store: Store::new(alloc),
             edits: Edits::new(alloc),
             ids: Counters {
                 next_id: 1,
@@ -228,7 +235,8 @@ impl World {
             unreachable!()
         };
         self.start(alloc, log, op)?;
-        self.take(alloc, log, op, node)?;
+        let content = self.keep(alloc, log)?;
+        self.take(alloc, log, op, node, &content)?;
         self.done(alloc, log, op, node)?;
         Ok(())
     }
@@ -256,21 +264,56 @@ impl World {
         record(log, event, Reply::Started(read))
     }
 
-    /// The server takes an upload's commit.
-    fn take(&mut self, alloc: Global, log: &mut Log, op: &Op, node: &Node) -> Result<(), AllocError>
-        requires id { 0 < op.now.id.0 }
-        requires fits { FitsKind node.now }
-        requires legal { LegalPut (tree_of self.old.server) op.now.id.0 node.now }
-        ensures server { OnOk result (self.new ≡ record self.old { server = self.old.server ++ next_entry self.old.server op.now.id.0 node.now ∷ [] }) }
-        ensures step { OnOk result (log.new.entries ≡ log.old.entries ++ entry.Stepped (event.Take CLIENT op.now.number) (reply.Took (take_reply.Accepted (length self.old.server + 1))) ∷ []) }
+    /// Stores the blocks of what the last start read, which is the content of the upload.
+    fn keep(&mut self, alloc: Global, log: &Log) -> Result<Content, AllocError>
+        ensures content { IfOk result (λ content. content ≡ content_of (last_read log.now.entries)) }
+        ensures blocks { OnOk result (self.new.store.now ≡ all_stored (blocks_of (last_read log.now.entries)) self.old.store.now) }
+        ensures others { OnOk result (self.new ≡ record self.old { store = self.new.store }) }
+    {
+        let bytes = last_read(log.entries());
+        let content = content_of(alloc, bytes)?;
+        keep_blocks(&mut self.store, alloc, bytes, content.blocks())?;
+        Ok(content)
+    }
+
+    /// The server judges an upload's commit, and takes it.
+    fn take(
+        &mut self,
+        alloc: Global,
+        log: &mut Log,
+        op: &Op,
+        node: &Node,
+        content: &Content,
+    ) -> Result<(), AllocError>
+        requires commit { IsNewCommit (at_rest self.old) op.now node.now }
+        requires blocks { first_missing self.old.store.now content.now.blocks ≡ None }
+        ensures server { OnOk result (self.new.server.now ≡ self.old.server.now ++ next_entry self.old.server.now op.now.id.0 node.now ∷ []) }
+        ensures blocks { OnOk result (self.new.store.now ≡ self.old.store.now) }
+        ensures others { OnOk result (self.new ≡ record self.old { server = self.new.server; store = self.new.store }) }
+        ensures step { OnOk result (log.new.entries ≡ log.old.entries ++ entry.Stepped (event.Take CLIENT op.now.number) (reply.Took (take_reply.Accepted (length self.old.server.now + 1))) ∷ []) }
         ensures err { OnErr result (log.new.entries ≡ log.old.entries) }
     {
-        let rev = self.server.accept(alloc, op.id, node)?;
+        let commit = Commit {
+            id: op.id,
+            base: op.base,
+            value: Some(node.copy(alloc)?),
+        };
+        let rev = match self
+            .server
+            .commit(alloc, &commit, Some(content), &self.store, CLIENT)
+        {
+            CommitReply::Accepted(rev) => rev,
+            CommitReply::Memory => return Err(AllocError),
+            CommitReply::Refused(_) => unreachable!(),
+        };
         let event = Event::Take {
             client: CLIENT,
             number: op.number,
         };
-        record(log, event, Reply::Took(TakeReply::Accepted(rev)))
+        record(log, event, Reply::Took(TakeReply::Accepted(rev)))?;
+        self.server.settle();
+        self.store.settle();
+        Ok(())
     }
 
     /// An upload is done: Remote and Synced have its node, and the cursor is behind its commit. Remote was the server's
@@ -319,6 +362,42 @@ fn record(log: &mut Log, event: Event, reply: Reply) -> Result<(), AllocError>
     ensures err { OnErr result (log.new.entries ≡ log.old.entries) }
 {
     log.push(LogEntry::Stepped { event, reply })
+}
+
+/// The bytes that the last entry has read, none where it read nothing.
+fn last_read(entries: &[LogEntry]) -> &[u8]
+    ensures { result.now ≡ last_read entries.now }
+{
+    match entries.last() {
+        Some(entry) => read_of(entry),
+        None => &[],
+    }
+}
+
+fn read_of(entry: &LogEntry) -> &[u8]
+    ensures { result.now ≡ read_of entry.now }
+{
+    match entry {
+        LogEntry::Opened { .. } => &[],
+        LogEntry::Stepped { reply, .. } => bytes_in(reply),
+    }
+}
+
+fn bytes_in(reply: &Reply) -> &[u8]
+    ensures { result.now ≡ bytes_in reply.now }
+{
+    match reply {
+        Reply::Started(StartReply::Ok { bytes: Some(bytes) }) => bytes.as_slice(),
+        Reply::Started(StartReply::Ok { bytes: None })
+        | Reply::User(_)
+        | Reply::Listed { .. }
+        | Reply::Scan(_)
+        | Reply::Pulled { .. }
+        | Reply::Plan(_)
+        | Reply::Took(_)
+        | Reply::Done(_)
+        | Reply::Marked(_) => &[],
+    }
 }
 
 /// What a plan answers that puts these in flight.

@@ -2,6 +2,8 @@ mod Following
 mod Fresh
 pub mod Judging
 mod Keeping
+pub mod OneAnswer
 mod Putting
 mod Removing
+pub mod Stored
 pub mod Undoing

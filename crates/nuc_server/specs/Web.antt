@@ -1,5 +1,6 @@
 -- What a web edit is answered, and what comes of it.
-use Rattle.std.specs.Prelude.{◌≡◌, ℕ, List}
+use Rattle.std.specs.Prelude.{◌≡◌, ◌≢◌, ℕ, List}
+use Rattle.nuc_base.specs.Trees.{WellFormed}
 use Rattle.nuc_base.specs.declared.node.Place.{Place}
 use Rattle.nuc_hash.specs.Filling.{filling_bytes}
 use Rattle.nuc_journal.specs.Entries.{tree_of}
@@ -28,3 +29,8 @@ AnswersAt s (edit.Bit path on) place answer t = BitAnswers s.entries place on an
 
 abbrev pub WebAnswers : WebState → WebEdit → WebReply → WebState → Type 0
 WebAnswers s e answer t = ByPath (tree_of s.entries) (path_of e) ((answer ≡ reply.NoParent) × IsUnchanged s t) (λ place. AnswersAt s e place answer t)
+
+-- a web edit has one answer, and one outcome, but that memory may be wanted
+abbrev pub OneWebAnswer : Type 0
+OneWebAnswer = (s t u : WebState) (e : WebEdit) (a b : WebReply) → WellFormed (tree_of s.entries) → a ≢ reply.Memory → b ≢ reply.Memory
+    → WebAnswers s e a t → WebAnswers s e b u → (a ≡ b) × (t ≡ u)

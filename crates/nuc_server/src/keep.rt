@@ -7,7 +7,7 @@ use nuc_hash::{BLOCK, Digest};
 use std::alloc::{AllocError, Global};
 
 /// Stores the blocks of these bytes, whose digests are known.
-pub(crate) fn keep_blocks(
+pub fn keep_blocks(
     store: &mut Store,
     alloc: Global,
     bytes: &[u8],

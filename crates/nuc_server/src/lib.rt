@@ -5,6 +5,7 @@ mod bit;
 mod commit;
 mod judge;
 mod keep;
+mod laws;
 mod mkdir;
 mod path;
 mod relocate;
@@ -20,5 +21,7 @@ mod web_tests;
 mod write;
 
 pub use commit::{Commit, CommitReply, Refusal};
+pub use keep::keep_blocks;
+pub use laws::has_one_web_answer;
 pub use server::{LoopServer, ServerTree};
 pub use web_edit::{WebEdit, WebReply};

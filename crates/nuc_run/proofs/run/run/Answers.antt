@@ -1,13 +1,13 @@
-use Rattle.std.proofs.Common.{rules}
-use Rattle.nuc_run.specs.Runs.{IsEarlyLog}
 use Rattle.nuc_run.specs.World.{at_rest}
-use Rattle.nuc_run.proofs.GoodLemmas.{went_well}
+use Rattle.nuc_run.proofs.GoodLemmas.{went_badly, went_well}
 use Rattle.nuc_run.proofs.RunOutput.{early_output}
 use Rattle.nuc_run.proofs.run.run.Goals as goal
 
 pub returns-then-is_err-clause-output : goal.returns-then-is_err-clause-output
-returns-then-is_err-clause-output g c =
-    let early : IsEarlyLog c.args.commands.now c.run_commands.new.log.entries = search rules in early_output _ _ _ early
+returns-then-is_err-clause-output g c = early_output _ _ _ (went_badly _ c.if-is_err.ensures.value c.run_commands.ensures.early)
+
+pub returns-then-is_err-clause-early : goal.returns-then-is_err-clause-early
+returns-then-is_err-clause-early g c = λ _. went_badly _ c.if-is_err.ensures.value c.run_commands.ensures.early
 
 pub returns-clause-whole : goal.returns-clause-whole
 returns-clause-whole g c = λ _. went_well _ c.if-is_err.ensures.value c.run_commands.ensures.whole
