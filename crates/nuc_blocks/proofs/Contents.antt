@@ -1,11 +1,11 @@
 -- What content the blocks of a list give.
-use Rattle.std.proofs.Common.{◌≡◌, ℕ, ◌<◌, ◌≤◌, min, Bool, true, false, cond, not, List, [], ◌∷◌, ◌++◌, length, map, Option, Some, None, is_some, refl, ap, ◌∙◌, sym, true≢false, arith, length-append}
+use Rattle.std.proofs.Common.{◌≡◌, ℕ, ◌<◌, ◌≤◌, min, cond, not, List, [], ◌∷◌, ◌++◌, length, map, Option, Some, None, is_some, refl, ap, ◌∙◌, true≢false, arith, length-append}
 use Rattle.std.specs.Option.{unwrap_or}
-use Rattle.nuc_hash.specs.Content.{ContentData, blocks_of, content_of, digest_of, joined}
+use Rattle.nuc_hash.specs.Content.{blocks_of, content_of, digest_of, joined}
 use Rattle.nuc_hash.specs.declared.content.TheConstants.{BLOCK}
 use Rattle.nuc_hash.specs.declared.digest.Digest.{Digest}
 use Rattle.nuc_hash.proofs.Pieces.{blocks_of-append, blocks_of-none}
-use Rattle.nuc_blocks.specs.Blocks.{AreBlocks, Blocks, assembled, block_of, first_missing, is_missing}
+use Rattle.nuc_blocks.specs.Blocks.{AreBlocks, Blocks, assembled, block_of, first_missing}
 use Rattle.nuc_blocks.specs.Laws.{AreCut, IsCutBefore}
 use Rattle.nuc_blocks.proofs.Formed.{found_block}
 

@@ -1,4 +1,4 @@
-ghost use Rattle.std.specs.Prelude.{◌≡◌, ◌<◌, [], ◌++◌, ◌∷◌, ◌↔◌, length, map, not, slice_get, take, IfOk, OnOk, IfErr, OnErr, IfSome, IsTrue, None};
+ghost use Rattle.std.specs.Prelude.{◌≡◌, ◌≤◌, [], ◌++◌, ◌∷◌, ◌↔◌, length, map, not, slice_get, take, IfOk, OnOk, IfErr, OnErr, IfSome, IsTrue, None};
 ghost use Rattle.std.specs.Option.{option_copied, option_map};
 
 use crate::{AssembleFault, StoreFault};
@@ -212,6 +212,15 @@ impl Store {
             Some((digest, bytes)) => Some((Digest(*digest), bytes.as_slice())),
             None => None,
         }
+    }
+
+    /// How many of the blocks there were at the last `settle`. They are the first.
+    pub fn settled_len(&self) -> usize
+        ensures front { self.now.settled ≡ take result self.now.now }
+        ensures within { result ≤ length self.now.now }
+        ensures formed { AreBlocks self.now.now }
+    {
+        self.settled
     }
 
     /// Settles the blocks that there are. Takes no memory.

@@ -33,24 +33,28 @@ const OF_MORE: Digest = Digest([
 ]);
 
 #[test]
-fn refuses_what_is_no_block(rt: HostRuntime) -> Result<(), Fail> {
+fn refuses_bytes_of_another_digest(rt: HostRuntime) -> Result<(), Fail> {
     let alloc = rt.alloc();
     let mut store = Store::new(alloc);
     assert_eq!(rt;
         store.put(alloc, &OF_NONE, b"a"),
         Err(StoreFault::Wrong(OF_A))
     );
-    let zeros = vec![in alloc; 0u8; BLOCK + 1]?;
-    assert_eq!(rt;
-        store.put(alloc, &OF_A, &zeros),
-        Err(StoreFault::Wrong(OF_MORE))
-    );
+    assert!(rt; store.is_empty());
+    Ok(())
+}
+
+#[test]
+fn takes_a_full_block_and_no_more(rt: HostRuntime) -> Result<(), Fail> {
+    let alloc = rt.alloc();
+    let mut store = Store::new(alloc);
+    let mut zeros = vec![in alloc; 0u8; BLOCK]?;
+    store.put(alloc, &OF_BLOCK, &zeros)?;
+    zeros.push(0)?;
     assert_eq!(rt;
         store.put(alloc, &OF_MORE, &zeros),
         Err(StoreFault::TooLong(4_194_305))
     );
-    assert!(rt; store.is_empty());
-    store.put(alloc, &OF_BLOCK, &zeros[..BLOCK])?;
     assert!(rt; store.has(&OF_BLOCK));
     Ok(())
 }
@@ -86,6 +90,7 @@ fn goes_back_to_what_was_settled(rt: HostRuntime) -> Result<(), Fail> {
     store.settle();
     store.put(alloc, &OF_A, b"a")?;
     assert_eq!(rt; store.entry(1).map(|block| block.0), Some(OF_A));
+    assert_eq!(rt; store.settled_len(), 1);
     store.back();
     assert_eq!(rt; store.len(), 1);
     assert_eq!(rt; store.first_missing(&[OF_B, OF_A]), Some(OF_A));

@@ -1,10 +1,11 @@
-use Rattle.std.proofs.Common.{◌≡◌, ℕ, ◌+◌, ◌<◌, ◌≤◌, ◌||◌, false, cond, nat_eq, List, [], ◌∷◌, ◌++◌, length, take, suc, zero, Option, None, Some, refl, sym, ap, subst, ◌∙◌, arith, All}
+use Rattle.std.proofs.Common.{◌≡◌, ℕ, ◌+◌, ◌<◌, ◌≤◌, ◌||◌, cond, nat_eq, List, [], ◌∷◌, ◌++◌, length, take, suc, zero, Option, None, Some, refl, sym, ap, subst, ◌∙◌, arith}
 use Rattle.std.proofs.Math.Bool.{or-false}
 use Rattle.std.proofs.lemmas.List.{length-append, length-take-le, map-append, take-append-le, take-map, take_all}
-use Rattle.std.proofs.lemmas.List.Elements.{All-tail, All-take, All-append, All-cons}
+use Rattle.std.proofs.lemmas.List.Elements.{All-take, All-append, All-cons}
 use Rattle.std.proofs.lemmas.List.Folds.{list_any-append}
 use Rattle.std.specs.Map.{values_of, lookup}
 use Rattle.std.specs.Option.{option_and_then}
+use Rattle.nuc_edits.proofs.Contents.{next_has_none}
 use Rattle.nuc_edits.specs.Edits.{IsNext, edit_of, content_at, content_put, is_base}
 use Rattle.nuc_edits.specs.Marks.{MarksState, is_marked}
 use Rattle.nuc_edits.specs.Tied.{AreKeyed, AreTied, MarksBases, MarksAdopted}
@@ -22,15 +23,8 @@ content_is v es edits keyed view found is =
     ap (option_and_then (λ (edit : Edit). content_put edit.what)) (is ∙ lookup_is v es keyed ∙ ap (λ edits. edit_of edits v) view)
 
 -- THE NEXT VERSION has no edit yet
-no_edit : (next : ℕ) (edits : List Edit) → All (λ edit. edit.ver.0 < next) edits → edit_of edits next ≡ None
-no_edit next [] below = refl
-no_edit next (e ∷ es) below =
-    let first : e.ver.0 < next = below 0 e (omega arith) in
-    let other : nat_eq next e.ver.0 ≡ false = grind (arith, first) in
-    ap (λ b. cond b (Some e) (edit_of es next)) other ∙ no_edit next es (All-tail (λ (edit : Edit). edit.ver.0 < next) e es below)
-
 pub next_absent : (next : ℕ) (es : List (ℕ × Edit)) (edits : List Edit) → AreKeyed es → values_of es ≡ edits → IsNext next edits → lookup (nat_eq next) es ≡ None
-next_absent next es edits keyed view is_next = lookup_is next es keyed ∙ ap (λ edits. edit_of edits next) view ∙ no_edit next edits is_next.above
+next_absent next es edits keyed view is_next = lookup_is next es keyed ∙ ap (λ edits. edit_of edits next) view ∙ next_has_none next edits is_next
 
 -- A FRONT of the entries
 keyed_take : (n : ℕ) (es : List (ℕ × Edit)) → AreKeyed es → AreKeyed (take n es)

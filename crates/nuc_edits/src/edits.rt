@@ -73,6 +73,8 @@ impl Edits {
         requires { IsNext ids.old.next_ver self.old.now.edits }
         ensures version { IfOk result (λ ver. ver.0 ≡ ids.old.next_ver) }
         ensures edit { IfOk result (λ ver. self.new.now ≡ record self.old.now { edits = self.old.now.edits ++ record { ver = ver; id = id; base = base; what = what } ∷ [] }) }
+        ensures content { IfOk result (λ ver. content_at self.new.now.edits ver.0 ≡ content_put what) }
+        ensures kept { (v : ℕ) → WasPut self.old.now.edits v → content_at self.new.now.edits v ≡ content_at self.old.now.edits v }
         ensures counters { OnOk result (ids.new ≡ record ids.old { next_ver = ids.old.next_ver + 1 }) }
         ensures next { IsNext ids.new.next_ver self.new.now.edits }
         ensures settled { self.new.settled ≡ self.old.settled }

@@ -1,16 +1,17 @@
 -- What the entries of one identity come to.
-use Rattle.std.proofs.Common.{◌≡◌, ◌-◌, ◌<◌, ℕ, zero, suc, List, [], ◌∷◌, ◌++◌, length, take, slice_get, Option, Some, None, IfSome, MatchOption, refl, sym, ◌∙◌, ap, subst, inl, inr, arith}
+use Rattle.std.proofs.Common.{◌≡◌, ◌-◌, ◌<◌, ◌≤◌, ℕ, zero, suc, List, [], ◌∷◌, ◌++◌, length, take, drop, slice_get, Option, Some, None, IfSome, MatchOption, refl, sym, ◌∙◌, ap, subst, inl, inr, arith}
 use Rattle.std.proofs.Math.Seq.{take-length}
+use Rattle.std.specs.FinMap as tree
 use Rattle.nuc_base.specs.declared.node.Kind.{Kind}
 use Rattle.nuc_base.specs.declared.node.Node.{Node}
 use Rattle.nuc_base.proofs.Maps.{same_or_not}
-use Rattle.nuc_journal.specs.Entries.{live_revision, revision_of, kind_with, kind_of, value_of}
+use Rattle.nuc_journal.specs.Entries.{tree_of, live_revision, revision_of, kind_with, kind_of, value_of}
 use Rattle.nuc_journal.specs.Journal.{HasOldKind, IsJournal}
-use Rattle.nuc_journal.specs.Laws.{GaveNode, KindsStay, CurrentRevisionsGave}
+use Rattle.nuc_journal.specs.Laws.{GaveNode, KindsStay, CurrentRevisionsGave, PagesLead}
 use Rattle.nuc_journal.specs.declared.entry.Entry.{Entry}
-use Rattle.nuc_journal.proofs.Ends.{last_stands, revision_push-same, revision_push-other, kind_push-same, kind_push-other, value_push-same, value_push-other}
+use Rattle.nuc_journal.proofs.Ends.{tree_after-append, last_stands, revision_push-same, revision_push-other, kind_push-same, kind_push-other, value_push-same, value_push-other}
 use Rattle.nuc_journal.proofs.Journals.{rev_at}
-use Rattle.nuc_journal.proofs.Lists.{within, take_at, take_past}
+use Rattle.nuc_journal.proofs.Lists.{within, take_at, take_past, front_more}
 
 -- a value that has the old kind keeps it
 kind_kept : (es : List Entry) (x : ℕ) (v : Option Node) (kind : Kind) → HasOldKind es x v → kind_of es x ≡ Some kind → kind_with v (kind_of es x) ≡ Some kind
@@ -89,3 +90,14 @@ unfolding Fit
 current_gave es x journal =
     let all : Fit es x (value_of es x) (revision_of es x) (kind_of es x) = subst (λ fs. Fit es x (value_of fs x) (revision_of fs x) (kind_of fs x)) (take-length es) (fit_at es journal (length es) x) in
     subst (λ v. Fit es x v (revision_of es x) (kind_of es x)) (sym (last_stands es x)) all
+
+-- no current revision is above the last
+pub revision_within : (es : List Entry) (x : ℕ) → IsJournal es → revision_of es x ≤ length es
+revision_within es x journal = elim (tree.get (tree_of es) x) as (λ (o : Option Node). MatchOption o (revision_of es x ≡ 0) (λ n. GaveNode es (revision_of es x) x n × (kind_of es x ≡ Some n.kind)) → revision_of es x ≤ length es) [
+  | None ↦ λ none. omega (arith, none)
+  | Some n ↦ λ ((e, above, at, same, value), kind). let lt = within es _ e at in omega (arith, above, lt)
+] (current_gave es x journal)
+
+-- a page leads on
+pub page_leads : PagesLead
+page_leads es after n reached = sym (ap tree_of (front_more after n es reached) ∙ tree_after-append tree.empty (take after es) (take n (drop after es)))

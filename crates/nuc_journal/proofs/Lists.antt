@@ -1,5 +1,5 @@
 -- Lists that get one more item, and their fronts.
-use Rattle.std.proofs.Common.{◌≡◌, ◌<◌, ◌≤◌, ◌⊎◌, ℕ, zero, suc, List, [], ◌∷◌, ◌++◌, length, take, slice_get, Some, None, refl, ◌∙◌, ap, inl, inr, arith}
+use Rattle.std.proofs.Common.{◌≡◌, ◌+◌, ◌<◌, ◌≤◌, ◌⊎◌, ℕ, zero, suc, List, [], ◌∷◌, ◌++◌, length, take, drop, slice_get, Some, None, refl, ◌∙◌, ap, inl, inr, arith}
 
 -- an item of the longer list is one of the list or the new one
 pub push_cases : {X : Type 0} (xs : List X) (x : X) (k : ℕ) (y : X) → slice_get (xs ++ x ∷ []) k ≡ Some y
@@ -57,3 +57,18 @@ take_front zero k xs le = refl
 take_front (suc n) zero xs le = absurd (omega arith)
 take_front (suc n) (suc k) [] le = refl
 take_front (suc n) (suc k) (y ∷ xs) le = ap (λ ys. y ∷ ys) (take_front n k xs (omega arith))
+
+front_again : {X : Type 0} (n : ℕ) (xs : List X) → take (length (take n xs)) xs ≡ take n xs
+front_again zero xs = refl
+front_again (suc n) [] = refl
+front_again (suc n) (y ∷ xs) =
+    let more : length (y ∷ take n xs) ≡ suc (length (take n xs)) = omega arith in
+    ap (λ k. take k (y ∷ xs)) more ∙ ap (λ ys. y ∷ ys) (front_again n xs)
+
+-- a front with some items more
+pub front_more : {X : Type 0} (k n : ℕ) (xs : List X) → k ≤ length xs → take (k + length (take n (drop k xs))) xs ≡ take k xs ++ take n (drop k xs)
+front_more zero n xs le = let same : 0 + length (take n xs) ≡ length (take n xs) = omega arith in ap (λ j. take j xs) same ∙ front_again n xs
+front_more (suc k) n [] le = absurd (omega arith)
+front_more (suc k) n (y ∷ xs) le =
+    let same : suc k + length (take n (drop k xs)) ≡ suc (k + length (take n (drop k xs))) = omega arith in
+    ap (λ j. take j (y ∷ xs)) same ∙ ap (λ ys. y ∷ ys) (front_more k n xs (omega arith))

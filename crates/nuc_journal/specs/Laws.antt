@@ -1,9 +1,9 @@
 -- The laws of journals.
-use Rattle.std.specs.Prelude.{◌≡◌, ◌<◌, ◌+◌, ◌-◌, ℕ, List, take, slice_get, Some, MatchOption}
+use Rattle.std.specs.Prelude.{◌≡◌, ◌≤◌, ◌<◌, ◌+◌, ◌-◌, ℕ, List, length, take, drop, slice_get, Some, MatchOption}
 use Rattle.std.specs.FinMap as tree
 use Rattle.nuc_base.specs.Trees.{WellFormed}
 use Rattle.nuc_base.specs.declared.node.Node.{Node}
-use Rattle.nuc_journal.specs.Entries.{tree_of, value_of, revision_of, kind_of}
+use Rattle.nuc_journal.specs.Entries.{tree_after, tree_of, value_of, revision_of, kind_of}
 use Rattle.nuc_journal.specs.Journal.{IsJournal}
 use Rattle.nuc_journal.specs.declared.entry.Entry.{Entry}
 
@@ -32,3 +32,8 @@ GaveNode es rev x n = (e : Entry) × (0 < rev) × (slice_get es (rev - 1) ≡ So
 abbrev pub CurrentRevisionsGave : Type 0
 CurrentRevisionsGave = (es : List Entry) (x : ℕ) → IsJournal es
     → MatchOption (tree.get (tree_of es) x) (revision_of es x ≡ 0) (λ n. GaveNode es (revision_of es x) x n × (kind_of es x ≡ Some n.kind))
+
+-- entries that follow one another, made upon the tree at the revision before them, lead to the tree at the last of them
+abbrev pub PagesLead : Type 0
+PagesLead = (es : List Entry) (after n : ℕ) → after ≤ length es → let page = take n (drop after es) in
+    tree_after (tree_of (take after es)) page ≡ tree_of (take (after + length page) es)

@@ -14,8 +14,10 @@ use std::marker::Model;
 
 /// Every change that was accepted, in order.
 ///
-/// Its entries up to some revision are settled, and `back` takes those after it out again. Besides `tree_at` and `back`, each call takes a time that
-/// doesn't grow with the number of entries. `spare` counts the entries that can be pushed before memory may be wanted.
+/// Its entries up to some revision are settled, and `back` takes those after it out again. `tree_at` takes time in the
+/// number of entries up to its revision, `back` in the number that it takes out; every other call looks at a few
+/// entries, besides those that it copies where memory grows. `spare` counts the entries that can be pushed before
+/// memory may be wanted.
 #[derive(Debug, Drop)]
 pub struct Journal {
     entries: Vec<Entry>,
@@ -79,7 +81,7 @@ impl Journal {
         self.entries.len() as u64
     }
 
-    /// The current revision of an identity: that of its last entry, 0 where this has no node or the identity has no entry.
+    /// The current revision of an identity: that of its last entry; 0 where this has no node, or there is none.
     pub fn rev_of(&self, id: NodeId) -> u64
         ensures { result ≡ revision_of self.now.now id.0 }
     {

@@ -1,4 +1,4 @@
-ghost use Rattle.nuc_journal.specs.Laws.{TreesAreFormed, RevisionsCount, KindsStay, LastEntryStands, CurrentRevisionsGave};
+ghost use Rattle.nuc_journal.specs.Laws.{TreesAreFormed, RevisionsCount, KindsStay, LastEntryStands, CurrentRevisionsGave, PagesLead};
 
 /// The tree at each revision of a journal is well formed; so no node stands at 0.
 pub fn trees_are_formed()
@@ -23,4 +23,9 @@ pub fn last_entry_stands()
 /// The current revision of an identity is that of the entry which gave it its node, and 0 where it has none.
 pub fn current_revisions_gave()
     ensures { CurrentRevisionsGave }
+{}
+
+/// The entries of a page lead from the tree at the revision that was asked for to the tree at the last of them.
+pub fn pages_lead()
+    ensures { PagesLead }
 {}

@@ -12,5 +12,6 @@ mod track;
 pub use entry::Entry;
 pub use journal::Journal;
 pub use laws::{
-    current_revisions_gave, kinds_stay, last_entry_stands, revisions_count, trees_are_formed,
+    current_revisions_gave, kinds_stay, last_entry_stands, pages_lead, revisions_count,
+    trees_are_formed,
 };

@@ -122,15 +122,20 @@ fn trees(rt: &impl Abort, alloc: Global, journal: &Journal) -> Result<(), Fail> 
     Ok(())
 }
 
+/// `d` comes again as `e`, `f` is written again, `g` is new.
+fn three_more(rt: &impl Abort, alloc: Global, journal: &mut Journal) -> Result<(), Fail> {
+    put(rt, alloc, journal, 2, node(alloc, b"e", 0)?)?;
+    put(rt, alloc, journal, 1, node(alloc, b"f", 3)?)?;
+    put(rt, alloc, journal, 3, node(alloc, b"g", 4)?)
+}
+
 #[test]
 fn goes_back_to_what_is_settled(rt: HostRuntime) -> Result<(), Fail> {
     let mut journal = Journal::new(rt.alloc());
     four_entries(&rt, rt.alloc(), &mut journal)?;
     journal.settle();
     journal.reserve(3)?;
-    put(&rt, rt.alloc(), &mut journal, 2, node(rt.alloc(), b"e", 0)?)?;
-    put(&rt, rt.alloc(), &mut journal, 1, node(rt.alloc(), b"f", 3)?)?;
-    put(&rt, rt.alloc(), &mut journal, 3, node(rt.alloc(), b"g", 4)?)?;
+    three_more(&rt, rt.alloc(), &mut journal)?;
     assert_eq!(&rt; journal.rev_of(NodeId(2)), 5);
     assert_eq!(&rt; journal.entry(7).map(|entry| entry.id), Some(NodeId(3)));
     assert!(&rt; journal.entry(0).is_none());

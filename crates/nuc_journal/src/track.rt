@@ -1,4 +1,4 @@
-ghost use Rattle.std.specs.Prelude.{◌≡◌, ◌<◌, ◌≤◌, ◌==◌, ◌+◌, ◌-◌, ◌++◌, ◌∷◌, [], ℕ, List, cond, nat_eq, take, length, vec_len, vec_capacity, IsSome, MatchOption, Some, None};
+ghost use Rattle.std.specs.Prelude.{◌≡◌, ◌<◌, ◌≤◌, ◌==◌, ◌+◌, ◌-◌, ◌++◌, ◌∷◌, [], ℕ, List, cond, nat_eq, take, vec_len, vec_capacity, IsSome, MatchOption, Some};
 ghost use Rattle.indexmap.specs.IndexMap.{get, spare};
 ghost use Rattle.nuc_journal.specs.Tracks.{Tells, IsTrack, AreTracks, AreBefore};
 ghost use Rattle.nuc_journal.specs.declared.entry.Entry.{Entry};

@@ -3,7 +3,7 @@ use Rattle.std.specs.Fmt.{decimal}
 use Rattle.nuc_hash.specs.Content.{ContentData}
 use Rattle.nuc_edits.specs.declared.edit.Edit.{Edit}
 use Rattle.nuc_edits.specs.declared.edit.EditKind.{EditKind}
-use Rattle.nuc_edits.specs.declared.edit.EditKind.TheVariants.{Put}
+use Rattle.nuc_edits.specs.declared.edit.EditKind.TheVariants.{Put, Deleted}
 use Rattle.nuc_folder.specs.declared.item.Item.{Item}
 use Rattle.nuc_step.specs.declared.event.Event.{Event}
 use Rattle.nuc_step.specs.declared.event.Event.TheVariants as event
@@ -82,6 +82,7 @@ line-change : (what : EditKind) (ver id base : List ℕ)
     → codes "edit " ++ (ver ++ (32 ∷ (id ++ (32 ∷ (base ++ (32 ∷ (joined (change_words what) ++ 10 ∷ [])))))))
     ≡ line (codes "edit" ∷ ver ∷ id ∷ base ∷ change_words what)
 line-change (Put content) ver id base = simp append_assoc
+line-change Deleted ver id base = refl
 
 -- the line of an edit, written in its parts
 pub edit_text : (edit : Edit) (change text : List ℕ) → change ≡ joined (change_words edit.what)

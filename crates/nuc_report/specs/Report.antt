@@ -10,7 +10,7 @@ use Rattle.nuc_base.specs.declared.node.Kind.TheVariants.{Folder, File}
 use Rattle.nuc_base.specs.declared.node.Node.{Node}
 use Rattle.nuc_edits.specs.declared.edit.Edit.{Edit}
 use Rattle.nuc_edits.specs.declared.edit.EditKind.{EditKind}
-use Rattle.nuc_edits.specs.declared.edit.EditKind.TheVariants.{Put}
+use Rattle.nuc_edits.specs.declared.edit.EditKind.TheVariants.{Put, Deleted}
 use Rattle.nuc_folder.specs.declared.item.Item.{Item}
 use Rattle.nuc_step.specs.declared.view.ClientView.{ClientView}
 use Rattle.nuc_step.specs.declared.view.View.{View}
@@ -50,7 +50,7 @@ abbrev pub seen_of : {T : Type 0} → (T → Nodes) → View T → Seen
 seen_of nodes view = record {
   revision = view.revision;
   server = nodes view.server.now;
-  edits = view.edits.now;
+  edits = view.edits.now.now.edits;
   client = client_seen nodes view.client;
 }
 
@@ -75,6 +75,7 @@ tree_text nodes = flat_map (line_at nodes) (keys nodes)
 
 abbrev pub change_words : EditKind → List (List ℕ)
 change_words (Put content) = codes "put" ∷ decimal content.size ∷ encode_lower content.hash.0 ∷ []
+change_words Deleted = codes "deleted" ∷ []
 
 abbrev pub edit_line : Edit → List ℕ
 edit_line edit = line (codes "edit" ∷ decimal edit.ver.0 ∷ decimal edit.id.0 ∷ decimal edit.base.0 ∷ change_words edit.what)

@@ -122,7 +122,7 @@ fn kind_word(kind: Kind, bit: bool) -> &'static str
 }
 
 fn push_edits(alloc: Global, text: &mut String, edits: &Edits) -> Result<(), AllocError>
-    ensures { OnOk result (string_bytes text.new ≡ string_bytes text.old ++ flat_map edit_line edits.now) }
+    ensures { OnOk result (string_bytes text.new ≡ string_bytes text.old ++ flat_map edit_line edits.now.now.edits) }
 {
     for i in 0..edits.len() {
         push_edit(alloc, text, edits.entry(i))?;
@@ -158,5 +158,6 @@ fn change_text(alloc: Global, what: &EditKind) -> Result<String, AllocError>
             let hash = hash_text(alloc, content.hash())?;
             format!(in alloc; "put {size} {hash}")
         }
+        EditKind::Deleted => format!(in alloc; "deleted"),
     }
 }

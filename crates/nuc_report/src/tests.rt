@@ -32,6 +32,7 @@ node 1 0 file 1 a.txt
 folder
 item 1 0 file 5 9595c9df90075148eb06860365df33584b75bff782a510c6cd4883a419833d50 a.txt
 edit 1 1 0 put 5 9595c9df90075148eb06860365df33584b75bff782a510c6cd4883a419833d50
+edit 2 1 1 deleted
 ";
 
 const EMPTY_RUN: &str = "open 1 fresh
@@ -174,6 +175,7 @@ fn a_report_shows_each_tree(rt: HostRuntime) -> Result<(), Fail> {
     };
     let hello = EditKind::Put(content_of(alloc, b"hello")?);
     edits.enter(&mut ids, NodeId(1), Ver(0), hello)?;
+    edits.enter(&mut ids, NodeId(1), Ver(1), EditKind::Deleted)?;
     let folder = items(alloc)?;
     let client = ClientView {
         number: 1,

@@ -1,5 +1,5 @@
 -- What the steps of a script keep.
-use Rattle.std.proofs.Common.{◌≡◌, ◌≢◌, ◌<◌, ◌+◌, ◌==◌, ℕ, zero, suc, true, false, cond, List, [], ◌∷◌, ◌++◌, length, map, find, insert, slice_index_or, Option, None, Some, Result, Ok, Err, OnOk, OnErr, refl, sym, ◌∙◌, ap, subst, inl, inr, arith, length-append}
+use Rattle.std.proofs.Common.{◌≡◌, ◌≢◌, ◌<◌, ◌+◌, ◌==◌, ℕ, zero, suc, true, false, cond, List, [], ◌∷◌, ◌++◌, length, map, find, insert, slice_index_or, Option, None, Some, Result, Ok, Err, is_err, true≢false, OnOk, OnErr, refl, sym, ◌∙◌, ap, subst, inl, inr, arith, length-append}
 use Rattle.std.specs.List.{AllPairs}
 use Rattle.std.specs.Ordering.{nat_cmp}
 use Rattle.std.specs.FinMap as tree
@@ -12,6 +12,7 @@ use Rattle.nuc_base.specs.declared.node.Counters.{Counters}
 use Rattle.nuc_base.specs.declared.node.Node.{Node}
 use Rattle.nuc_base.proofs.Forms.{empty_form}
 use Rattle.nuc_base.proofs.Maps.{after_put, get_put_other, same_or_not, not_both}
+use Rattle.nuc_edits.specs.Edits.{EditsState}
 use Rattle.nuc_edits.specs.declared.edit.Edit.{Edit}
 use Rattle.nuc_folder.specs.Folder.{FileData, FolderData}
 use Rattle.nuc_folder.specs.Listing.{item_of, has_key}
@@ -197,6 +198,10 @@ pub on_ok : {T E P : Type 0} (r : Result T E) → P → OnOk r P
 on_ok (Ok x) p = p
 on_ok (Err e) p = tt
 
+pub went_well : {T E P : Type 0} (r : Result T E) → false ≡ is_err r → OnOk r P → P
+went_well (Ok x) same p = p
+went_well (Err e) same p = absurd (true≢false (sym same))
+
 pub on_err : {T E P : Type 0} (r : Result T E) → P → OnErr r P
 on_err (Ok x) p = tt
 on_err (Err e) p = p
@@ -257,12 +262,12 @@ good_scanned s items local keys edits ids good same fits kept = record {
   };
 }
 
-pub fresh_world : (w : World) → w.server ≡ [] → w.edits ≡ [] → w.ids ≡ record { next_id = 1; next_ver = 1 } → w.folder ≡ record { files = []; next_key = 1 }
+pub fresh_world : (w : World) → w.server ≡ [] → (edits : EditsState) → w.edits ≡ edits → edits.now.edits ≡ [] → w.ids ≡ record { next_id = 1; next_ver = 1 } → w.folder ≡ record { files = []; next_key = 1 }
     → w.client.remote.nodes ≡ tree.empty → w.client.local.nodes ≡ tree.empty → w.client.synced.nodes ≡ tree.empty
     → w.client ≡ record w.client { keys = []; cursor = 0; changes = 0; next_op = 1 } → at_rest w ≡ fresh
-fresh_world w server edits ids folder remote local synced others = λ i. record {
+fresh_world w server edits same none ids folder remote local synced others = λ i. record {
   server = server i;
-  edits = edits i;
+  edits = (ap (λ (e : EditsState). e.now.edits) same ∙ none) i;
   ids = ids i;
   folder = folder i;
   client = record {

@@ -10,32 +10,31 @@ use Rattle.nuc_edits.specs.declared.edit.Edit.{Edit}
 use Rattle.nuc_report.specs.declared.status.Status.{Status}
 use Rattle.nuc_report.specs.declared.status.Status.TheVariants as status
 use Rattle.nuc_script.specs.declared.command.Command.{Command}
+use Rattle.nuc_step.specs.declared.event.Event.{Event}
 use Rattle.nuc_step.specs.declared.event.Event.TheVariants as event
 use Rattle.nuc_step.specs.declared.log.LogEntry.{LogEntry}
 use Rattle.nuc_step.specs.declared.log.LogEntry.TheVariants as entry
 use Rattle.nuc_step.specs.declared.reply.PlanReply.{PlanReply}
 use Rattle.nuc_step.specs.declared.reply.PlanReply.TheVariants as plan
+use Rattle.nuc_step.specs.declared.reply.Reply.{Reply}
 use Rattle.nuc_step.specs.declared.reply.Reply.TheVariants as reply
 use Rattle.nuc_run.specs.Good.{AreKept}
 use Rattle.nuc_run.specs.Plan.{batch, due_at, numbered}
-use Rattle.nuc_run.specs.Runs.{Holds, IsEarlyLog, IsLawful, IsWholeLog, opening, replay, replayed}
+use Rattle.nuc_run.specs.Runs.{IsEarlyLog, IsWholeLog, Leads, opening}
 use Rattle.nuc_run.specs.Server.{tree_of}
 use Rattle.nuc_run.specs.Sound.{AreEqual, FitsPlan, HasVersion, IsExactThroughout, IsSound, IsSoundThroughout, PlansExactly}
 use Rattle.nuc_run.specs.State.{State, fresh}
-use Rattle.nuc_run.specs.Step.{planned_batch}
+use Rattle.nuc_run.specs.Step.{Answers, after, planned_batch}
 use Rattle.nuc_run.proofs.Kept.{IsTakenAs, Kept, StandIn}
 use Rattle.nuc_run.proofs.KeptServer.{entered, last_entry}
 use Rattle.nuc_run.proofs.KeptSteps.{kept_after, kept_fresh}
 use Rattle.nuc_run.proofs.PlanLemmas.{empty_agrees}
 
 -- EACH POINT
-kept_replayed : (s : State) (e : LogEntry) → Kept s → Kept (replayed s e)
-kept_replayed s (entry.Opened clients found) kept = kept
-kept_replayed s (entry.Stepped e r) kept = kept_after s e kept
-
-kept_along : (s : State) (es : List LogEntry) → Kept s → Kept (replay s es)
-kept_along s [] kept = kept
-kept_along s (e ∷ es) kept = kept_along (replayed s e) es (kept_replayed s e kept)
+kept_along : (w v : State) (es : List LogEntry) → Leads w es v → Kept w → Kept v
+kept_along w v [] is kept = subst Kept is kept
+kept_along w v (entry.Opened clients found ∷ es) leads kept = absurd leads
+kept_along w v (entry.Stepped e r ∷ es) leads kept = kept_along (after w e) v es leads.1 (kept_after w e kept)
 
 stand_at : (l : Nodes) (es : List Edit) → StandIn l es → All (λ e. HasVersion l e.ver.0) es
 stand_at l [] stand k d below = absurd (omega arith)
@@ -53,7 +52,7 @@ sound s kept = record {
 }
 
 pub sound_throughout : (log : List LogEntry) → IsSoundThroughout log
-sound_throughout log es rest is = sound (replay fresh es) (kept_along fresh es kept_fresh)
+sound_throughout log es rest s is leads = sound s (kept_along fresh s es leads kept_fresh)
 
 -- A PLAN is made with nothing in flight, and then Remote and Synced are the server's tree
 module _ (s : State) (kept : Kept s) (landed : s.client.flights ≡ []) where
@@ -108,31 +107,34 @@ equal_is_empty s (remote, local) =
     ∙ ap (λ l. batch s.client.next_op s.client.synced l s.client.synced) local
     ∙ nothing_planned s.client.next_op s.client.synced
 
-lawful_at : (s : State) (es rest : List LogEntry) (e : LogEntry) → IsLawful s (es ++ e ∷ rest) → Holds (replay s es) e
-lawful_at s [] rest e lawful = lawful.0
-lawful_at s (f ∷ fs) rest e lawful = lawful_at (replayed s f) fs rest e lawful.1
+-- each entry of a log was answered in the state to which those before it lead
+answered_at : (w v s : State) (es rest : List LogEntry) (e : Event) (r : Reply) → Leads w (es ++ entry.Stepped e r ∷ rest) v → Leads w es s → Answers s e r
+answered_at w v s [] rest e r all is = subst (λ w. Answers w e r) is all.0
+answered_at w v s (entry.Opened clients found ∷ es) rest e r all before = absurd all
+answered_at w v s (entry.Stepped f q ∷ es) rest e r all before = answered_at (after w f) v s es rest e r all.1 before.1
 
-plan_exact : (s : State) (client : ℕ) (answer : PlanReply) → Kept s → Holds s (entry.Stepped (event.Plan client) (reply.Plan answer)) → FitsPlan s.client answer
+plan_exact : (s : State) (client : ℕ) (answer : PlanReply) → Kept s → Answers s (event.Plan client) (reply.Plan answer) → FitsPlan s.client answer
 plan_exact s client plan.Empty kept holds = empty_is_equal s kept holds.1.0 holds.1.1
 plan_exact s client (plan.Batch ops) kept holds = λ equal. let said = holds.1 in said.2 (said.1 ∙ equal_is_empty s equal)
 
-exact_at : (s : State) (e : LogEntry) → Kept s → Holds s e → PlansExactly s e
-exact_at s (entry.Opened clients found) kept holds = tt
-exact_at s (entry.Stepped (event.Plan client) (reply.Plan answer)) kept holds = plan_exact s client answer kept holds
-exact_at s (entry.Stepped _ _) kept holds = tt
+exact_at : (w v s : State) (es rest : List LogEntry) (e : LogEntry) → Kept s → Leads w (es ++ e ∷ rest) v → Leads w es s → PlansExactly s e
+exact_at w v s es rest (entry.Opened clients found) kept all before = tt
+exact_at w v s es rest (entry.Stepped (event.Plan client) (reply.Plan answer)) kept all before =
+    plan_exact s client answer kept (answered_at w v s es rest (event.Plan client) (reply.Plan answer) all before)
+exact_at w v s es rest (entry.Stepped _ _) kept all before = tt
 
-exact_of_lawful : (log entries : List LogEntry) → log ≡ opening ∷ entries → IsLawful fresh entries → IsExactThroughout log
-exact_of_lawful log entries opened lawful es rest e is =
+exact_of_leads : (log entries : List LogEntry) (end : State) → log ≡ opening ∷ entries → Leads fresh entries end → IsExactThroughout log
+exact_of_leads log entries end opened leads es rest e s is before =
     let same : entries ≡ es ++ e ∷ rest = (let both : opening ∷ entries ≡ opening ∷ (es ++ e ∷ rest) = sym opened ∙ is in cc) in
-    exact_at (replay fresh es) e (kept_along fresh es kept_fresh) (lawful_at fresh es rest e (subst (IsLawful fresh) same lawful))
+    exact_at fresh end s es rest e (kept_along fresh s es before kept_fresh) (subst (λ es. Leads fresh es end) same leads) before
 
 exact_of_whole : (cs : List Command) (log : List LogEntry) → IsWholeLog cs log → IsExactThroughout log
-exact_of_whole cs log whole = exact_of_lawful log whole.entries whole.opened whole.runs.lawful
+exact_of_whole cs log whole = exact_of_leads log whole.entries whole.end whole.opened whole.runs.leads
 
 exact_of_early : (cs : List Command) (log : List LogEntry) → IsEarlyLog cs log → IsExactThroughout log
-exact_of_early cs log early es rest e is = elim early.opened [
+exact_of_early cs log early es rest e s is before = elim early.opened [
   | inl none ↦ absurd (let clash : ◌≡◌ {A = List LogEntry} [] (opening ∷ (es ++ e ∷ rest)) = sym none ∙ is in cc)
-  | inr opened ↦ exact_of_lawful log early.entries opened early.runs.lawful es rest e is
+  | inr opened ↦ exact_of_leads log early.entries early.end opened early.runs.leads es rest e s is before
 ]
 
 pub exact_throughout : (cs : List Command) (before : Status) (log : List LogEntry) → (before ≡ status.Ok) ⊎ (before ≡ status.Memory)

@@ -16,3 +16,4 @@ pub mod KeptScan
 pub mod KeptServer
 pub mod KeptSteps
 pub mod KeptLogs
+pub mod RunOutput

@@ -20,10 +20,10 @@ use Rattle.nuc_step.specs.declared.reply.DoneReply.TheVariants as done
 use Rattle.nuc_step.specs.declared.reply.MarkReply.TheVariants as mark
 use Rattle.nuc_report.specs.declared.status.Status.TheVariants as status
 use Rattle.nuc_run.specs.Outcome.{EveryScriptIsRun, OneOutcome, RanAll}
-use Rattle.nuc_run.specs.Runs.{IsLawful, IsWholeLog, replayed}
+use Rattle.nuc_run.specs.Runs.{IsWholeLog, Leads}
 use Rattle.nuc_run.specs.Scan.{observed}
 use Rattle.nuc_run.specs.State.{State, Listing, fresh}
-use Rattle.nuc_run.specs.Step.{Says, before_listing, found}
+use Rattle.nuc_run.specs.Step.{Says, after, before_listing, found}
 use Rattle.nuc_run.specs.Tasks.{Task, Follows, more, script_tasks}
 
 scanned_one : (w : State) (held : Option Listing) (j k : ℕ) → IsSomeAnd held (λ h. j ≡ found w (observed (before_listing w) h.items))
@@ -66,25 +66,25 @@ says_one w (event.Mark c) (reply.Marked mark.Quiet) _ a b = absurd b
 says_one w (event.Mark c) _ s a b = absurd a
 
 -- the same tasks from the same state bring the same entries
-entries_one : (w : State) (ts : List Task) (es fs : List LogEntry) → IsLawful w es → IsLawful w fs → Follows ts es [] → Follows ts fs [] → es ≡ fs
-entries_one w ts [] [] a b p q = refl
-entries_one w [] [] (f ∷ fs) a b p q = absurd q
-entries_one w (t ∷ ts) [] (f ∷ fs) a b p q = cc
-entries_one w [] (e ∷ es) fs a b p q = absurd p
-entries_one w (t ∷ ts) (e ∷ es) [] a b p q = cc
-entries_one w (t ∷ ts) (entry.Opened n k ∷ es) (f ∷ fs) a b p q = absurd p
-entries_one w (t ∷ ts) (entry.Stepped e r ∷ es) (entry.Opened n k ∷ fs) a b p q = absurd q
-entries_one w (t ∷ ts) (entry.Stepped e r ∷ es) (entry.Stepped f s ∷ fs) a b p q =
+entries_one : (w v u : State) (ts : List Task) (es fs : List LogEntry) → Leads w es v → Leads w fs u → Follows ts es [] → Follows ts fs [] → es ≡ fs
+entries_one w v u ts [] [] a b p q = refl
+entries_one w v u [] [] (f ∷ fs) a b p q = absurd q
+entries_one w v u (t ∷ ts) [] (f ∷ fs) a b p q = cc
+entries_one w v u [] (e ∷ es) fs a b p q = absurd p
+entries_one w v u (t ∷ ts) (e ∷ es) [] a b p q = cc
+entries_one w v u (t ∷ ts) (entry.Opened n k ∷ es) (f ∷ fs) a b p q = absurd p
+entries_one w v u (t ∷ ts) (entry.Stepped e r ∷ es) (entry.Opened n k ∷ fs) a b p q = absurd q
+entries_one w v u (t ∷ ts) (entry.Stepped e r ∷ es) (entry.Stepped f s ∷ fs) a b p q =
     let same_event : f ≡ e = q.0 ∙ sym p.0 in
-    let b' : IsLawful w (entry.Stepped e s ∷ fs) = subst (λ f. IsLawful w (entry.Stepped f s ∷ fs)) same_event b in
+    let b' : Leads w (entry.Stepped e s ∷ fs) u = subst (λ f. Leads w (entry.Stepped f s ∷ fs) u) same_event b in
     let same_reply : s ≡ r = says_one w e s r b'.0.1 a.0.1 in
     let q' : Follows (more t r ++ ts) fs [] = subst (λ s. Follows (more t s ++ ts) fs []) same_reply q.1 in
-    let rest : es ≡ fs = entries_one (replayed w (entry.Stepped e r)) (more t r ++ ts) es fs a.1 b'.1 p.1 q' in
+    let rest : es ≡ fs = entries_one (after w e) v u (more t r ++ ts) es fs a.1 b'.1 p.1 q' in
     ap (λ es. entry.Stepped e r ∷ es) rest ∙ ap (λ s. entry.Stepped e s ∷ fs) (sym same_reply) ∙ ap (λ e. entry.Stepped e s ∷ fs) (sym same_event)
 
 whole_one : (cs : List Command) (x y : List LogEntry) → IsWholeLog cs x → IsWholeLog cs y → x ≡ y
 whole_one cs x y a b = a.opened
-    ∙ ap (λ es. entry.Opened 1 false ∷ es) (entries_one fresh (script_tasks cs) a.entries b.entries a.runs.lawful b.runs.lawful a.runs.asked b.runs.asked)
+    ∙ ap (λ es. entry.Opened 1 false ∷ es) (entries_one fresh a.end b.end (script_tasks cs) a.entries b.entries a.runs.leads b.runs.leads a.runs.asked b.runs.asked)
     ∙ sym b.opened
 
 ran_one : (left rest : List ℕ) (x y : List LogEntry) → RanAll (Some left) (Some rest) x → RanAll (Some left) (Some rest) y → x ≡ y

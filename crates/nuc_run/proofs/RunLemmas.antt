@@ -6,15 +6,12 @@ use Rattle.nuc_step.specs.declared.reply.Reply.{Reply}
 use Rattle.nuc_run.specs.State.{State}
 use Rattle.nuc_run.specs.Step.{after, Answers}
 use Rattle.nuc_run.specs.Tasks.{Task, event_of, more, Follows}
-use Rattle.nuc_run.specs.Runs.{replayed, replay, IsLawful, Runs, Did, Began}
+use Rattle.nuc_run.specs.Runs.{Leads, Runs, Did, Began}
 
-replay-append : (w : State) (es fs : List LogEntry) → replay w (es ++ fs) ≡ replay (replay w es) fs
-replay-append w [] fs = refl
-replay-append w (e ∷ es) fs = replay-append (replayed w e) es fs
-
-lawful-append : (w : State) (es fs : List LogEntry) → IsLawful w es → IsLawful (replay w es) fs → IsLawful w (es ++ fs)
-lawful-append w [] fs a b = b
-lawful-append w (e ∷ es) fs a b = (a.0, lawful-append (replayed w e) es fs a.1 b)
+leads-append : (w v u : State) (es fs : List LogEntry) → Leads w es v → Leads v fs u → Leads w (es ++ fs) u
+leads-append w v u [] fs a b = subst (λ w. Leads w fs u) (sym a) b
+leads-append w v u (entry.Opened clients kept ∷ es) fs a b = absurd a
+leads-append w v u (entry.Stepped e r ∷ es) fs a b = (a.0, leads-append (after w e) v u es fs a.1 b)
 
 follows-append : (ts : List Task) (es fs : List LogEntry) (us vs : List Task) → Follows ts es us → Follows us fs vs → Follows ts (es ++ fs) vs
 follows-append ts [] fs us vs a b = subst (λ us. Follows us fs vs) (sym a) b
@@ -30,23 +27,22 @@ follows_more (t ∷ ts) (entry.Stepped e r ∷ es) us rest a =
     (a.0, subst (λ ts. Follows ts es (us ++ rest)) (append_assoc (more t r) ts rest) (follows_more (more t r ++ ts) es us rest a.1))
 
 pub runs_nothing : (w : State) (ts : List Task) → Runs w ts [] w ts
-runs_nothing w ts = record { lawful = tt; state = refl; asked = refl }
+runs_nothing w ts = record { leads = refl; asked = refl }
 
 pub runs_one : (w : State) (t : Task) (ts : List Task) (r : Reply) → Answers w (event_of t) r
     → Runs w (t ∷ ts) (entry.Stepped (event_of t) r ∷ []) (after w (event_of t)) (more t r ++ ts)
-runs_one w t ts r a = record { lawful = (a, tt); state = refl; asked = (refl, refl) }
+runs_one w t ts r a = record { leads = (a, refl); asked = (refl, refl) }
 
 pub runs_then : {a b c : State} {ts us vs : List Task} {es fs : List LogEntry}
     → Runs a ts es b us → Runs b us fs c vs → Runs a ts (es ++ fs) c vs
 runs_then {a} {b} {c} {ts} {us} {vs} {es} {fs} p q = record {
-  lawful = lawful-append a es fs p.lawful (subst (λ w. IsLawful w fs) (sym p.state) q.lawful);
-  state = replay-append a es fs ∙ ap (λ w. replay w fs) p.state ∙ q.state;
+  leads = leads-append a b c es fs p.leads q.leads;
   asked = follows-append ts es fs us vs p.asked q.asked;
 }
 
 pub runs_more : {a b : State} {ts us : List Task} {es : List LogEntry} → (rest : List Task)
     → Runs a ts es b us → Runs a (ts ++ rest) es b (us ++ rest)
-runs_more {ts = ts} {us = us} {es = es} rest p = record { lawful = p.lawful; state = p.state; asked = follows_more ts es us rest p.asked }
+runs_more {ts = ts} {us = us} {es = es} rest p = record { leads = p.leads; asked = follows_more ts es us rest p.asked }
 
 pub did_nothing : (log : List LogEntry) (w : State) (ts : List Task) → Did log log w ts w ts
 did_nothing log w ts = record { entries = []; added = sym (append-nil log); runs = runs_nothing w ts }

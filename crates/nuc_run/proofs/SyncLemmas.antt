@@ -9,7 +9,7 @@ use Rattle.nuc_folder.specs.declared.user.UserEdit.TheVariants as edit
 use Rattle.nuc_hash.specs.declared.filling.Filling.TheVariants as filling
 use Rattle.nuc_step.specs.declared.event.Event.TheVariants as event
 use Rattle.nuc_step.specs.declared.log.LogEntry.{LogEntry}
-use Rattle.nuc_run.specs.Runs.{Did, Began, replay, opening, IsWholeLog, IsEarlyLog}
+use Rattle.nuc_run.specs.Runs.{Did, Began, Reaches, opening, IsWholeLog, IsEarlyLog}
 use Rattle.nuc_run.specs.State.{State, fresh}
 use Rattle.nuc_run.specs.Tasks.{Task, once, plans, pulls, script_tasks, tasks_of}
 use Rattle.nuc_run.proofs.ListLemmas.{drop_at}
@@ -105,21 +105,30 @@ module _ (cs : List Command) (i : ℕ) (c : Command) (at : slice_get cs i ≡ So
 pub whole_log : (cs : List Command) (log : List LogEntry) (end : State) → Did (opening ∷ []) log fresh (script_tasks cs) end [] → IsWholeLog cs log
 whole_log cs log end did = record {
   entries = did.entries;
+  end = end;
   opened = did.added;
-  runs = record { lawful = did.runs.lawful; state = refl; asked = did.runs.asked };
+  runs = did.runs;
 }
 
-pub whole_state : (cs : List Command) (log : List LogEntry) (end : State) → Did (opening ∷ []) log fresh (script_tasks cs) end [] → end ≡ replay fresh log
-whole_state cs log end did = sym did.runs.state ∙ sym (ap (replay fresh) did.added)
+pub whole_state : (cs : List Command) (log : List LogEntry) (end : State) → Did (opening ∷ []) log fresh (script_tasks cs) end [] → Reaches log end
+whole_state cs log end did = subst (λ l. Reaches l end) (sym did.added) (refl, did.runs.leads)
+
+-- an early log leads somewhere
+pub early_state : (cs : List Command) (log : List LogEntry) → IsEarlyLog cs log → (end : State) × Reaches log end
+early_state cs log early = elim early.opened [
+  | inl none ↦ (fresh, subst (λ l. Reaches l fresh) (sym none) refl)
+  | inr opened ↦ (early.end, subst (λ l. Reaches l early.end) (sym opened) (refl, early.runs.leads))
+]
 
 pub early_log : (cs : List Command) (log : List LogEntry) → Began (opening ∷ []) log fresh (script_tasks cs) → IsEarlyLog cs log
 early_log cs log began = record {
   entries = began.did.entries;
+  end = began.end;
   left = began.left;
   opened = inr began.did.added;
-  runs = record { lawful = began.did.runs.lawful; state = refl; asked = began.did.runs.asked };
+  runs = began.did.runs;
 }
 
 -- not even the opening is in the log
 pub no_log : (cs : List Command) (log : List LogEntry) → log ≡ [] → IsEarlyLog cs log
-no_log cs log none = record { entries = []; left = script_tasks cs; opened = inl none; runs = runs_nothing fresh (script_tasks cs) }
+no_log cs log none = record { entries = []; end = fresh; left = script_tasks cs; opened = inl none; runs = runs_nothing fresh (script_tasks cs) }

@@ -15,10 +15,10 @@ use Rattle.nuc_script.specs.Text.{script_text}
 use Rattle.nuc_script.specs.declared.command.Command.{Command}
 use Rattle.nuc_script.specs.declared.script_read.ScriptRead.TheVariants as read
 use Rattle.nuc_step.specs.declared.log.LogEntry.{LogEntry}
-use Rattle.nuc_run.specs.State.{State, fresh}
+use Rattle.nuc_run.specs.State.{State}
 use Rattle.nuc_run.specs.Server.{tree_of}
 use Rattle.nuc_run.specs.Step.{listing}
-use Rattle.nuc_run.specs.Runs.{replay, IsWholeLog, IsEarlyLog}
+use Rattle.nuc_run.specs.Runs.{IsEarlyLog, IsWholeLog, Reaches}
 
 -- the words are the one word `run`
 abbrev pub AreRun : List (RcStr Global) → Type 0
@@ -71,10 +71,6 @@ seen_in w = record {
   };
 }
 
--- the whole output of a run that ended so before it was written
-abbrev pub whole_output : Status → List LogEntry → List ℕ
-whole_output before log = output_of before log (seen_in (replay fresh log))
-
 -- a part of it went out
 pub record WritesPart (held : Option (List ℕ)) (text : List ℕ) (now : Option (List ℕ)) : Type 0 where
   pub count : ℕ
@@ -85,6 +81,12 @@ abbrev pub WritesOutput : Option (List ℕ) → Status → List ℕ → Option (
 WritesOutput held status.WriteFault text now = WritesPart held text now
 WritesOutput held status.Memory text now = WritesPart held text now
 WritesOutput held _ text now = Added held text now
+
+-- the output is that of the log, of the state that it leads to and of the status before
+pub record WritesRun (held : Option (List ℕ)) (before : Status) (log : List LogEntry) (ended : Status) (now : Option (List ℕ)) : Type 0 where
+  pub end : State
+  pub reached : Reaches log end
+  pub written : WritesOutput held ended (output_of before log (seen_in end)) now
 
 -- the status is the one before the output, or says that writing this failed or found no memory
 abbrev pub EndsAs : Status → Status → Type 0

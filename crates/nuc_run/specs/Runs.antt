@@ -7,46 +7,41 @@ use Rattle.nuc_run.specs.State.{State, fresh}
 use Rattle.nuc_run.specs.Step.{after, Answers}
 use Rattle.nuc_run.specs.Tasks.{Task, script_tasks, Follows}
 
--- REPLAY: the state that the entries lead to
-abbrev pub replayed : State → LogEntry → State
-replayed w (entry.Opened clients kept) = w
-replayed w (entry.Stepped e r) = after w e
+-- the entries lead from one state to another: each reply is one that its event may be given at that point. An opening is no
+-- step: it stands in front of these
+abbrev pub Leads : State → List LogEntry → State → Type 0
+Leads w [] v = w ≡ v
+Leads w (entry.Opened clients kept ∷ es) v = ⊥
+Leads w (entry.Stepped e r ∷ es) v = Answers w e r × Leads (after w e) es v
 
-abbrev pub replay : State → List LogEntry → State
-replay w [] = w
-replay w (e ∷ es) = replay (replayed w e) es
-
--- each reply is the one that the step gives at that point. An opening is no step: it stands in front of these
-abbrev pub Holds : State → LogEntry → Type 0
-Holds w (entry.Opened clients kept) = ⊥
-Holds w (entry.Stepped e r) = Answers w e r
-
-abbrev pub IsLawful : State → List LogEntry → Type 0
-IsLawful w [] = Unit {0}
-IsLawful w (e ∷ es) = Holds w e × IsLawful (replayed w e) es
-
--- from one state, the entries are lawful, lead to the other and are what the tasks bring, but for the tasks left
+-- the entries lead from one state to the other and are what the tasks bring, but for the tasks left
 pub record Runs (w : State) (ts : List Task) (es : List LogEntry) (end : State) (left : List Task) : Type 0 where
-  pub lawful : IsLawful w es
-  pub state : replay w es ≡ end
+  pub leads : Leads w es end
   pub asked : Follows ts es left
 
 -- a log begins with the opening of a fresh world with one client
 abbrev pub opening : LogEntry
 opening = entry.Opened 1 false
 
+-- a whole log leads from the fresh state to another
+abbrev pub Reaches : List LogEntry → State → Type 0
+Reaches [] s = fresh ≡ s
+Reaches (e ∷ es) s = (e ≡ opening) × Leads fresh es s
+
 -- THE LOGS OF A SCRIPT. The whole one: the opening, and then all that the commands ask for
 pub record IsWholeLog (cs : List Command) (log : List LogEntry) : Type 0 where
   pub entries : List LogEntry
+  pub end : State
   pub opened : log ≡ opening ∷ entries
-  pub runs : Runs fresh (script_tasks cs) entries (replay fresh entries) []
+  pub runs : Runs fresh (script_tasks cs) entries end []
 
 -- one that ended early: after any number of its steps, or before the opening, where entries and left say nothing
 pub record IsEarlyLog (cs : List Command) (log : List LogEntry) : Type 0 where
   pub entries : List LogEntry
+  pub end : State
   pub left : List Task
   pub opened : (log ≡ []) ⊎ (log ≡ opening ∷ entries)
-  pub runs : Runs fresh (script_tasks cs) entries (replay fresh entries) left
+  pub runs : Runs fresh (script_tasks cs) entries end left
 
 -- WHAT A PIECE OF A RUN DID. It added entries to the log: from one state and its tasks to another and those left
 pub record Did (old new : List LogEntry) (w : State) (ts : List Task) (end : State) (left : List Task) : Type 0 where

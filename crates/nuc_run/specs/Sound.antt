@@ -10,7 +10,7 @@ use Rattle.nuc_step.specs.declared.log.LogEntry.TheVariants as entry
 use Rattle.nuc_step.specs.declared.reply.PlanReply.{PlanReply}
 use Rattle.nuc_step.specs.declared.reply.PlanReply.TheVariants as plan
 use Rattle.nuc_step.specs.declared.reply.Reply.TheVariants as reply
-use Rattle.nuc_run.specs.Runs.{opening, replay}
+use Rattle.nuc_run.specs.Runs.{Leads, opening}
 use Rattle.nuc_run.specs.Server.{tree_of}
 use Rattle.nuc_run.specs.State.{ClientState, State, fresh}
 
@@ -38,9 +38,9 @@ pub record IsSound (s : State) : Type 0 where
   pub pulled : s.client.remote ≡ tree_of (take s.client.cursor s.server)
   pub accounted : All (λ e. IsAccounted s e.ver.0) s.edits
 
--- the state after every first part of the log is sound
+-- the state to which a first part of the log leads is sound, whichever part it is
 abbrev pub IsSoundThroughout : List LogEntry → Type 0
-IsSoundThroughout log = (es rest : List LogEntry) → log ≡ opening ∷ (es ++ rest) → IsSound (replay fresh es)
+IsSoundThroughout log = (es rest : List LogEntry) (s : State) → log ≡ opening ∷ (es ++ rest) → Leads fresh es s → IsSound s
 
 -- AN EMPTY PLAN says that the three trees are equal, and any other that they aren't
 abbrev pub AreEqual : ClientState → Type 0
@@ -56,4 +56,4 @@ PlansExactly w _ = Unit {0}
 
 -- each plan of the log, by the state before it
 abbrev pub IsExactThroughout : List LogEntry → Type 0
-IsExactThroughout log = (es rest : List LogEntry) (e : LogEntry) → log ≡ opening ∷ (es ++ e ∷ rest) → PlansExactly (replay fresh es) e
+IsExactThroughout log = (es rest : List LogEntry) (e : LogEntry) (s : State) → log ≡ opening ∷ (es ++ e ∷ rest) → Leads fresh es s → PlansExactly s e

@@ -7,7 +7,7 @@ use Rattle.nuc_run.specs.declared.world.World.{World}
 abbrev pub state_of : World → Option Listing → List Flight → State
 state_of w held flights = record {
   server = w.server;
-  edits = w.edits;
+  edits = w.edits.now.edits;
   ids = w.ids;
   folder = w.folder;
   client = record {

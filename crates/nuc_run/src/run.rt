@@ -2,8 +2,8 @@ ghost use Rattle.std.specs.Prelude.{◌≡◌, ◌≢◌, ◌⊎◌, [], IfOk, M
 ghost use Rattle.nuc_io.specs.Causes.{HasCause};
 ghost use Rattle.nuc_report.specs.Output.{output_of, refusal_text};
 ghost use Rattle.nuc_run.specs.Good.{Good};
-ghost use Rattle.nuc_run.specs.Outcome.{AreRun, EndsAs, EveryScriptIsRun, JudgesWords, OneOutcome, RunsScript, WritesOutput, seen_in, whole_output};
-ghost use Rattle.nuc_run.specs.Runs.{Began, Did, IsEarlyLog, IsWholeLog, replay};
+ghost use Rattle.nuc_run.specs.Outcome.{AreRun, EndsAs, EveryScriptIsRun, JudgesWords, OneOutcome, RunsScript, WritesOutput, WritesRun, seen_in};
+ghost use Rattle.nuc_run.specs.Runs.{Began, Did, IsEarlyLog, IsWholeLog, Reaches};
 ghost use Rattle.nuc_run.specs.Sound.{IsExactThroughout, IsSoundThroughout};
 ghost use Rattle.nuc_run.specs.State.{fresh};
 ghost use Rattle.nuc_run.specs.Tasks.{tasks_of};
@@ -43,7 +43,7 @@ pub fn run_script<S: Source, K: Sink>(
 
     // What was written.
     ensures status { EndsAs result.before result.status }
-    ensures output { WritesOutput (K.held output.old) result.status (whole_output result.before result.log.entries) (K.held output.new) }
+    ensures output { WritesRun (K.held output.old) result.before result.log.entries result.status (K.held output.new) }
     ensures write { HasCause (K.faults output.old) (K.faults output.new) (result.status ≡ Status.WriteFault) }
 {
     if !are_run(words) {
@@ -95,7 +95,7 @@ fn run<K: Sink>(alloc: Global, commands: &[Command], output: &mut K) -> Ended
     ensures whole { result.before ≡ Status.Ok → IsWholeLog commands.now result.log.entries }
     ensures early { result.before ≡ Status.Memory → IsEarlyLog commands.now result.log.entries }
     ensures status { EndsAs result.before result.status }
-    ensures output { WritesOutput (K.held output.old) result.status (whole_output result.before result.log.entries) (K.held output.new) }
+    ensures output { WritesRun (K.held output.old) result.before result.log.entries result.status (K.held output.new) }
     ensures write { HasCause (K.faults output.old) (K.faults output.new) (result.status ≡ Status.WriteFault) }
 {
     let mut world = World::new(alloc);
@@ -138,7 +138,7 @@ fn run_commands(
     requires fresh { at_rest world.old ≡ fresh }
     requires log { log.old.entries ≡ [] }
     ensures whole { OnOk result (IsWholeLog commands.now log.new.entries) }
-    ensures world { OnOk result (at_rest world.new ≡ replay fresh log.new.entries) }
+    ensures world { OnOk result (Reaches log.new.entries (at_rest world.new)) }
     ensures early { OnErr result (IsEarlyLog commands.now log.new.entries) }
 {
     log.push(LogEntry::Opened {

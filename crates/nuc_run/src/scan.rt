@@ -28,9 +28,9 @@ pub fn observe(
 ) -> Result<(), AllocError>
     requires names { All (λ item. IsName item.name) items.now }
     requires apart { AreApart items.now }
-    requires fits { IsObserved items.now local.old.nodes keys.old edits.old ids.old }
-    ensures ok { OnOk result (observed (record { local = local.old.nodes; keys = keys.old; edits = edits.old; ids = ids.old }) items.now ≡ record { local = local.new.nodes; keys = keys.new; edits = edits.new; ids = ids.new }) }
-    ensures fits { OnOk result (IsObserved items.now local.new.nodes keys.new edits.new ids.new) }
+    requires fits { IsObserved items.now local.old.nodes keys.old edits.old.now.edits ids.old }
+    ensures ok { OnOk result (observed (record { local = local.old.nodes; keys = keys.old; edits = edits.old.now.edits; ids = ids.old }) items.now ≡ record { local = local.new.nodes; keys = keys.new; edits = edits.new.now.edits; ids = ids.new }) }
+    ensures fits { OnOk result (IsObserved items.now local.new.nodes keys.new edits.new.now.edits ids.new) }
     ensures kept { OnOk result (AreKept local.old.nodes local.new.nodes) }
 {
     for item in items {
@@ -50,10 +50,10 @@ fn observe_item(
     requires name { IsName item.now.name }
     requires form { WellFormed local.old.nodes }
     requires first { 0 < ids.old.next_id }
-    requires versions { IsNext ids.old.next_ver edits.old }
+    requires versions { IsNext ids.old.next_ver edits.old.now.edits }
     requires legal { is_known keys.old item.now.key.0 ≡ false → LegalPut local.old.nodes ids.old.next_id (new_file item.now.name ids.old.next_ver) }
-    ensures ok { OnOk result (record { local = local.new.nodes; keys = keys.new; edits = edits.new; ids = ids.new } ≡ with_item (record { local = local.old.nodes; keys = keys.old; edits = edits.old; ids = ids.old }) item.now) }
-    ensures versions { OnOk result (IsNext ids.new.next_ver edits.new) }
+    ensures ok { OnOk result (record { local = local.new.nodes; keys = keys.new; edits = edits.new.now.edits; ids = ids.new } ≡ with_item (record { local = local.old.nodes; keys = keys.old; edits = edits.old.now.edits; ids = ids.old }) item.now) }
+    ensures versions { OnOk result (IsNext ids.new.next_ver edits.new.now.edits) }
 {
     if is_known(keys.as_slice(), item.key) {
         return Ok(());
@@ -77,10 +77,10 @@ fn add_file(
     requires name { IsName item.now.name }
     requires form { WellFormed local.old.nodes }
     requires first { 0 < ids.old.next_id }
-    requires versions { IsNext ids.old.next_ver edits.old }
+    requires versions { IsNext ids.old.next_ver edits.old.now.edits }
     requires legal { LegalPut local.old.nodes ids.old.next_id (new_file item.now.name ids.old.next_ver) }
-    ensures ok { OnOk result (record { local = local.new.nodes; keys = keys.new; edits = edits.new; ids = ids.new } ≡ with_new_file (record { local = local.old.nodes; keys = keys.old; edits = edits.old; ids = ids.old }) item.now content.now) }
-    ensures versions { OnOk result (IsNext ids.new.next_ver edits.new) }
+    ensures ok { OnOk result (record { local = local.new.nodes; keys = keys.new; edits = edits.new.now.edits; ids = ids.new } ≡ with_new_file (record { local = local.old.nodes; keys = keys.old; edits = edits.old.now.edits; ids = ids.old }) item.now content.now) }
+    ensures versions { OnOk result (IsNext ids.new.next_ver edits.new.now.edits) }
 {
     let name = name_of(alloc, item)?;
     let id = NodeId(ids.next_id);

@@ -10,6 +10,8 @@ mod path;
 mod relocate;
 mod remove;
 mod server;
+#[cfg(test)]
+mod tests;
 mod undo;
 mod web;
 mod web_edit;

@@ -4,6 +4,7 @@
 
 mod fault;
 mod hashing;
+mod storing;
 
 use fault::Fault;
 use std::alloc::Global;
@@ -36,7 +37,18 @@ fn answer(rt: &(impl Env + AllocGlobal), alloc: Global) -> Result<String, Fault>
 fn run(alloc: Global, words: &[String]) -> Result<String, Fault> {
     match words {
         [] => small(alloc),
+        [command, count] => count_by(alloc, command.as_str(), number(count)?),
         [command, size, piece] => hash_by(alloc, command.as_str(), number(size)?, number(piece)?),
+        _ => Err(Fault::Usage),
+    }
+}
+
+fn count_by(alloc: Global, command: &str, count: u64) -> Result<String, Fault> {
+    match command {
+        "store" => {
+            let bytes = storing::store(alloc, count)?;
+            Ok(format!(in alloc; "{bytes}")?)
+        }
         _ => Err(Fault::Usage),
     }
 }
@@ -60,5 +72,6 @@ fn number(word: &String) -> Result<u64, Fault> {
 fn small(alloc: Global) -> Result<String, Fault> {
     let hash = hashing::hash(alloc, 1_000, 300)?;
     let sha2 = hashing::sha2(alloc, 1_000, 300)?;
-    Ok(format!(in alloc; "hash {hash}\nsha2 {sha2}")?)
+    let store = storing::store(alloc, 3)?;
+    Ok(format!(in alloc; "hash {hash}\nsha2 {sha2}\nstore {store}")?)
 }

@@ -5,4 +5,4 @@ use Rattle.nuc_report.specs.Report.{edit_line}
 use Rattle.nuc_report.proofs.state.push_edits.Given as goal
 
 abbrev pub invariant-loop-i : goal.invariant-loop-i
-invariant-loop-i l = string_bytes l.text ≡ string_bytes l.initial.text ++ flat_map edit_line (take l.i l.edits)
+invariant-loop-i l = string_bytes l.text ≡ string_bytes l.initial.text ++ flat_map edit_line (take l.i l.edits.now.edits)

@@ -1,5 +1,11 @@
+use Rattle.std.proofs.Common.{[], ◌∷◌, ◌∙◌, subst, rules}
+use Rattle.std.proofs.Math.ListN.{drop_of_length-le}
+use Rattle.nuc_run.specs.Runs.{Did, opening}
+use Rattle.nuc_run.specs.State.{fresh}
+use Rattle.nuc_run.specs.Tasks.{script_tasks}
+use Rattle.nuc_run.specs.World.{at_rest}
 use Rattle.nuc_run.proofs.GoodLemmas.{on_err}
-use Rattle.nuc_run.proofs.SyncLemmas.{command_read, early_log, script_built, script_next, script_stopped}
+use Rattle.nuc_run.proofs.SyncLemmas.{command_read, early_log, no_log, script_built, script_next, script_stopped, whole_log}
 use Rattle.nuc_run.proofs.run.run_commands.Goals as goal
 
 pub run_command-requires-clause-built : goal.run_command-requires-clause-built
@@ -21,3 +27,12 @@ loop-command-preserved c = record {
       (command_read c.args.commands.now c.loop-command.command-index c.command-item.result c.loop-command-test.true c.command-item.is)
       c.loop-command.invariant.step c.in_ok-run_command.ensures.step;
 }
+
+pub returns-in_err-push-clause-early : goal.returns-in_err-push-clause-early
+returns-in_err-push-clause-early c = on_err c.from_residual.result (no_log _ _ (c.in_err-push.ensures.err ∙ c.requires.log))
+
+pub returns-clause-whole : goal.returns-clause-whole
+returns-clause-whole c =
+    whole_log _ _ (at_rest c.loop-command.world)
+    (subst (λ ds. Did (opening ∷ []) c.loop-command.log.entries fresh (script_tasks c.args.commands.now) (at_rest c.loop-command.world) (script_tasks ds))
+    (drop_of_length-le c.args.commands.now (search rules)) c.loop-command.invariant.step)

@@ -5,8 +5,8 @@ use Rattle.nuc_run.proofs.scan.observe.Given as goal
 
 abbrev pub invariant-loop-item : goal.invariant-loop-item
 invariant-loop-item l = record {
-  so_far : observed (record { local = l.initial.local.nodes; keys = l.initial.keys; edits = l.initial.edits; ids = l.initial.ids }) l.items
-      ≡ observed (record { local = l.local.nodes; keys = l.keys; edits = l.edits; ids = l.ids }) (drop l.item-index l.items);
-  fits : IsObserved l.items l.local.nodes l.keys l.edits l.ids;
+  so_far : observed (record { local = l.initial.local.nodes; keys = l.initial.keys; edits = l.initial.edits.now.edits; ids = l.initial.ids }) l.items
+      ≡ observed (record { local = l.local.nodes; keys = l.keys; edits = l.edits.now.edits; ids = l.ids }) (drop l.item-index l.items);
+  fits : IsObserved l.items l.local.nodes l.keys l.edits.now.edits l.ids;
   kept : AreKept l.initial.local.nodes l.local.nodes;
 }

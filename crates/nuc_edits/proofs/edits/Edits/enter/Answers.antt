@@ -2,7 +2,8 @@ use Rattle.std.proofs.Common.{rules, refl, ap, subst, sym, ◌∙◌, ◌≡◌,
 use Rattle.std.proofs.lemmas.List.{map-append, take-append-le}
 use Rattle.std.specs.Map.{values_of}
 use Rattle.indexmap.proofs.CallerLemmas.{insert_entry-new}
-use Rattle.nuc_edits.specs.Edits.{EditsState, IsNext}
+use Rattle.nuc_edits.specs.Edits.{EditsState, IsNext, content_at}
+use Rattle.nuc_edits.proofs.Contents.{content_entered, content_kept}
 use Rattle.nuc_edits.specs.Marks.{is_marked}
 use Rattle.nuc_edits.specs.declared.edit.Edit.{Edit}
 use Rattle.nuc_edits.proofs.TiedLemmas.{tied_edit, next_absent, next_more, values_take}
@@ -48,3 +49,12 @@ returns-clause-settled c =
       adoptions = take c.self.inside.settled_adoptions c.self.inside.adoptions.items;
     })
     ∙ ap (λ (s : EditsState). s.settled) c.self.view_is
+
+pub returns-clause-content : goal.returns-clause-content
+returns-clause-content c =
+    ap (λ edits. content_at edits c.args.ids.now.next_ver) (values_grown c)
+    ∙ content_entered c.args.self.now.now.edits (entered c) c.requires
+
+pub returns-clause-kept : goal.returns-clause-kept
+returns-clause-kept c v put =
+    ap (λ edits. content_at edits v) (values_grown c) ∙ content_kept v c.args.self.now.now.edits (entered c ∷ []) put
