@@ -22,7 +22,8 @@ use Rattle.nuc_run.specs.Good.{AreKept}
 use Rattle.nuc_run.specs.Plan.{batch, due_at, numbered}
 use Rattle.nuc_run.specs.Runs.{IsEarlyLog, IsWholeLog, Leads, opening}
 use Rattle.nuc_journal.specs.Entries.{tree_of}
-use Rattle.nuc_run.specs.Sound.{AreEqual, FitsPlan, HasVersion, IsExactThroughout, IsSound, IsSoundThroughout, PlansExactly}
+use Rattle.nuc_server.specs.Versions.{HasVersion}
+use Rattle.nuc_run.specs.Sound.{AreEqual, FitsPlan, IsExactThroughout, IsSound, IsSoundThroughout, PlansExactly}
 use Rattle.nuc_run.specs.State.{State, fresh}
 use Rattle.nuc_run.specs.Step.{Answers, after, planned_batch}
 use Rattle.nuc_run.proofs.Kept.{IsTakenAs, Kept, StandIn}

@@ -1,9 +1,6 @@
 -- What holds at every point of a log: after each of its steps, and of each plan in it.
-use Rattle.std.specs.Prelude.{◌≡◌, ◌⊎◌, ◌≤◌, ◌++◌, ℕ, List, [], ◌∷◌, All, length, take, Some}
-use Rattle.std.specs.FinMap as tree
-use Rattle.nuc_base.specs.declared.node.Node.{Node}
-use Rattle.nuc_base.specs.Trees.{Nodes, WellFormed}
-use Rattle.nuc_edits.specs.declared.edit.Edit.{Edit}
+use Rattle.std.specs.Prelude.{◌≡◌, ◌⊎◌, ◌≤◌, ◌++◌, ℕ, List, [], ◌∷◌, All, length, take}
+use Rattle.nuc_base.specs.Trees.{WellFormed}
 use Rattle.nuc_step.specs.declared.event.Event.TheVariants as event
 use Rattle.nuc_step.specs.declared.log.LogEntry.{LogEntry}
 use Rattle.nuc_step.specs.declared.log.LogEntry.TheVariants as entry
@@ -12,19 +9,8 @@ use Rattle.nuc_step.specs.declared.reply.PlanReply.TheVariants as plan
 use Rattle.nuc_step.specs.declared.reply.Reply.TheVariants as reply
 use Rattle.nuc_run.specs.Runs.{Leads, opening}
 use Rattle.nuc_journal.specs.Entries.{tree_of}
+use Rattle.nuc_server.specs.Versions.{HasVersion, IsReplaced}
 use Rattle.nuc_run.specs.State.{ClientState, State, fresh}
-
--- a node of the tree has the version
-pub record HasVersion (m : Nodes) (v : ℕ) : Type 0 where
-  pub id : ℕ
-  pub node : Node
-  pub here : tree.get m id ≡ Some node
-  pub ver : node.ver.0 ≡ v
-
--- an edit replaced the version
-abbrev pub IsReplaced : List Edit → ℕ → Type 0
-IsReplaced [] v = ⊥
-IsReplaced (e ∷ es) v = (e.base.0 ≡ v) ⊎ IsReplaced es v
 
 -- NO CONTENT IS LOST: the version stands at the server or in Local, or an edit replaced it
 abbrev pub IsAccounted : State → ℕ → Type 0

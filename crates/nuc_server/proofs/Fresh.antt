@@ -1,11 +1,11 @@
 -- The identity that whoever is new gets.
-use Rattle.std.proofs.Common.{◌≡◌, ◌≢◌, ◌<◌, ◌≤◌, ◌+◌, ◌==◌, ℕ, suc, false, cond, List, [], ◌∷◌, ◌++◌, length, slice_get, Option, None, Some, refl, ap, ◌∙◌, inl, inr, arith}
+use Rattle.std.proofs.Common.{◌≡◌, ◌≢◌, ◌<◌, ◌≤◌, ◌==◌, ℕ, suc, false, cond, List, [], ◌∷◌, slice_get, Option, None, Some, refl, ap, ◌∙◌, inl, inr, arith}
 use Rattle.std.proofs.lemmas.Bool.{cases_lt}
 use Rattle.std.specs.FinMap as tree
 use Rattle.nuc_base.specs.declared.node.Kind.{Kind}
 use Rattle.nuc_base.specs.declared.node.Node.{Node}
 use Rattle.nuc_base.proofs.Maps.{not_both}
-use Rattle.nuc_journal.specs.Entries.{kind_with, kind_after, kind_of, value_after, value_of, tree_of}
+use Rattle.nuc_journal.specs.Entries.{kind_with, kind_after, kind_of, value_after, tree_of}
 use Rattle.nuc_journal.specs.declared.entry.Entry.{Entry}
 use Rattle.nuc_journal.proofs.Ends.{other_no, last_stands}
 use Rattle.nuc_journal.proofs.Lists.{push_cases}

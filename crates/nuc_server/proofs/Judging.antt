@@ -1,5 +1,5 @@
 -- What the judgement of a commit may take for granted behind its first tests.
-use Rattle.std.proofs.Common.{◌≡◌, ◌<◌, ℕ, List, Option, None, Some, IfSome, MatchOption, refl, sym, ◌∙◌, subst, arith}
+use Rattle.std.proofs.Common.{◌≡◌, ◌<◌, ℕ, List, Option, None, Some, IfSome, MatchOption, refl, sym, subst, arith}
 use Rattle.std.specs.FinMap as tree
 use Rattle.nuc_base.specs.Legal.{SameKind}
 use Rattle.nuc_base.specs.Trees.{Nodes, IsThere}

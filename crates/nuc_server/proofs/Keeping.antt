@@ -2,7 +2,6 @@
 use Rattle.std.proofs.Common.{◌≡◌, ◌+◌, ◌-◌, ◌<◌, ◌≤◌, ℕ, min, List, [], ◌∷◌, ◌++◌, length, take, drop, get_or, map, Some, refl, sym, ap, subst, ◌∙◌, arith, length-take-le, length-drop}
 use Rattle.std.proofs.lemmas.List.{drop_more, nil_from_length, take-append-drop}
 use Rattle.nuc_blocks.specs.Blocks.{Blocks, block_of, stored}
-use Rattle.nuc_blocks.specs.Store.{StoreState}
 use Rattle.nuc_blocks.proofs.Lookups.{kept_stands}
 use Rattle.nuc_hash.specs.Content.{blocks_of, digest_of}
 use Rattle.nuc_hash.specs.declared.content.TheConstants.{BLOCK}

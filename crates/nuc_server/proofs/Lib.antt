@@ -2,6 +2,7 @@ mod Following
 mod Fresh
 pub mod Judging
 mod Keeping
+pub mod NothingLost
 pub mod OneAnswer
 mod Putting
 mod Removing

@@ -1,5 +1,5 @@
 -- A commit and a web edit have one answer each, but that memory may be wanted.
-use Rattle.std.proofs.Common.{◌≡◌, ◌≢◌, ◌+◌, ℕ, Bool, List, [], ◌∷◌, ◌++◌, length, Option, None, Some, refl, sym, ◌∙◌, ap, subst, inl, inr}
+use Rattle.std.proofs.Common.{◌≡◌, ◌≢◌, ℕ, Bool, List, [], ◌∷◌, Option, None, Some, refl, sym, ◌∙◌, ap, subst, inl, inr}
 use Rattle.std.specs.FinMap.{get}
 use Rattle.nuc_base.specs.Faults.{PutFaulty}
 use Rattle.nuc_base.specs.Legal.{LegalPut}
@@ -21,7 +21,7 @@ use Rattle.nuc_hash.specs.Filling.{filling_bytes}
 use Rattle.nuc_journal.specs.Entries.{tree_of}
 use Rattle.nuc_journal.specs.declared.entry.Entry.{Entry}
 use Rattle.nuc_server.specs.Paths.{ByHolder, ByPath, LeadsOn, LeadsTo, place_in}
-use Rattle.nuc_server.specs.Web.{AnswersAt, OneWebAnswer, WebAnswers, path_of}
+use Rattle.nuc_server.specs.Web.{AnswersAt, OneWebAnswer, path_of}
 use Rattle.nuc_server.specs.WebEdits.{CutAnswers, EndsFile, Enters, IsUnchanged, MkdirAnswers, PutAnswers, SetsBit, WebState, Writes, WritesNew, WritesOver}
 use Rattle.nuc_server.specs.declared.web_edit.WebEdit.{WebEdit}
 use Rattle.nuc_server.specs.declared.web_edit.WebEdit.TheVariants as edit

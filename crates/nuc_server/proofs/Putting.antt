@@ -1,7 +1,7 @@
 -- Which nodes the web's edits may put.
-use Rattle.std.proofs.Common.{◌≡◌, ◌<◌, ℕ, Bool, List, Option, None, Some, IfSome, refl, sym, ap, subst, ◌∙◌, inl, inr, arith}
+use Rattle.std.proofs.Common.{◌≡◌, ◌<◌, ℕ, Bool, List, Option, None, Some, refl, sym, ap, subst, ◌∙◌, inl, inr, arith}
 use Rattle.std.specs.FinMap as tree
-use Rattle.nuc_base.specs.Kinds.{Fits, FitsKind}
+use Rattle.nuc_base.specs.Kinds.{Fits}
 use Rattle.nuc_base.specs.Legal.{LegalPut}
 use Rattle.nuc_base.specs.Trees.{Nodes, IsFolder, IsVacant, WellFormed}
 use Rattle.nuc_base.specs.declared.node.Kind.{Kind}

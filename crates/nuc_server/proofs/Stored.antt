@@ -1,5 +1,5 @@
 -- Once all blocks of a content are stored, none is missing.
-use Rattle.std.proofs.Common.{◌≡◌, ℕ, Bool, true, false, cond, not, is_some, List, [], ◌∷◌, Option, None, Some, map, refl, sym, ap, subst, ◌∙◌}
+use Rattle.std.proofs.Common.{◌≡◌, ℕ, false, cond, not, is_some, List, [], ◌∷◌, None, Some, map, refl, ap, ◌∙◌}
 use Rattle.std.specs.List.{find}
 use Rattle.nuc_blocks.specs.Blocks.{Blocks, block_of, first_missing, is_missing, stored}
 use Rattle.nuc_blocks.proofs.Lookups.{kept_stands, stored_stands}
@@ -7,7 +7,7 @@ use Rattle.nuc_hash.specs.Content.{digest_of}
 use Rattle.nuc_hash.specs.declared.digest.Digest.{Digest}
 use Rattle.nuc_server.specs.WebEdits.{all_stored}
 
-stands_on : (ps : List (List ℕ)) (blocks : Blocks) (digest : Digest) (bytes : List ℕ) → block_of blocks digest ≡ Some bytes → block_of (all_stored ps blocks) digest ≡ Some bytes
+pub stands_on : (ps : List (List ℕ)) (blocks : Blocks) (digest : Digest) (bytes : List ℕ) → block_of blocks digest ≡ Some bytes → block_of (all_stored ps blocks) digest ≡ Some bytes
 stands_on [] blocks digest bytes at = at
 stands_on (p ∷ ps) blocks digest bytes at = stands_on ps (stored (digest_of p) p blocks) digest bytes (kept_stands blocks (digest_of p) p digest bytes at)
 

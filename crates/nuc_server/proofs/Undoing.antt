@@ -1,18 +1,17 @@
 -- How the entries behind the settled ones are taken back, one after the other.
-use Rattle.std.proofs.Common.{◌≡◌, ◌≢◌, ◌<◌, ◌≤◌, ◌+◌, ◌-◌, ℕ, zero, suc, Bool, false, true, List, [], ◌∷◌, ◌++◌, length, take, slice_get, Option, None, Some, refl, sym, ◌∙◌, ap, subst, inl, inr, arith, length-append}
+use Rattle.std.proofs.Common.{◌≡◌, ◌<◌, ◌≤◌, ◌+◌, ◌-◌, ℕ, zero, suc, Bool, false, true, List, [], ◌∷◌, ◌++◌, length, take, slice_get, Option, None, Some, refl, sym, ◌∙◌, ap, subst, inl, inr, arith, length-append}
 use Rattle.std.proofs.lemmas.List.{length-take-le, take-append-le}
 use Rattle.std.proofs.Math.Seq.{take-append_seam, take-length}
 use Rattle.std.specs.FinMap as tree
 use Rattle.nuc_base.specs.Trees.{Nodes, WellFormed}
 use Rattle.nuc_base.specs.declared.node.Node.{Node}
-use Rattle.nuc_base.specs.declared.node.NodeId.{NodeId}
 use Rattle.nuc_base.proofs.Back.{cut_after_put, legal_cut_back, legal_put_after_cut, legal_put_back, put_after_cut, put_over_put}
 use Rattle.nuc_journal.specs.Entries.{tree_of, with_value}
 use Rattle.nuc_journal.specs.Journal.{IsJournal, IsLegalValue, IsNextEntry}
 use Rattle.nuc_journal.specs.State.{JournalState}
 use Rattle.nuc_journal.specs.declared.entry.Entry.{Entry}
 use Rattle.nuc_journal.proofs.Ends.{tree_push}
-use Rattle.nuc_journal.proofs.Journals.{form_at, form_of, journal_front}
+use Rattle.nuc_journal.proofs.Journals.{form_at, journal_front}
 use Rattle.nuc_journal.proofs.Lists.{front_at, push_at, push_before, push_cases, take_at, take_front}
 use Rattle.nuc_tree.specs.State.{TreeState}
 use Rattle.nuc_server.specs.State.{IsServer}

@@ -2,5 +2,6 @@ pub mod Judge
 pub mod Paths
 pub mod State
 pub mod Undo
+pub mod Versions
 pub mod Web
 pub mod WebEdits

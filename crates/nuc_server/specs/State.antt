@@ -1,4 +1,4 @@
-use Rattle.std.specs.Prelude.{◌≡◌, ◌≤◌, ◌<◌, ◌+◌, ◌-◌, ◌^◌, ℕ, Bool, true, List, length, take, vec_len, vec_capacity}
+use Rattle.std.specs.Prelude.{◌≡◌, ◌≤◌, ◌<◌, ◌+◌, ◌-◌, ◌^◌, ℕ, Bool, true, List, length, take}
 use Rattle.nuc_journal.specs.Entries.{tree_of}
 use Rattle.nuc_journal.specs.Journal.{IsJournal}
 use Rattle.nuc_journal.specs.State.{JournalState}

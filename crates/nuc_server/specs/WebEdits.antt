@@ -1,5 +1,5 @@
 -- What each web edit of a place is answered, and what comes of it.
-use Rattle.std.specs.Prelude.{◌≡◌, ◌≢◌, ◌<◌, ◌+◌, ℕ, Bool, true, false, IsTrue, List, [], ◌∷◌, ◌++◌, length, slice_get, Option, None, Some}
+use Rattle.std.specs.Prelude.{◌≡◌, ◌≢◌, ◌<◌, ◌+◌, ℕ, Bool, false, IsTrue, List, [], ◌∷◌, ◌++◌, length, slice_get, Option, None, Some}
 use Rattle.nuc_base.specs.Faults.{PutFaulty, CutFaulty}
 use Rattle.nuc_base.specs.Legal.{LegalPut, LegalCut}
 use Rattle.nuc_base.specs.Trees.{IsVacant, StandsAt}

@@ -22,6 +22,6 @@ mod write;
 
 pub use commit::{Commit, CommitReply, Refusal};
 pub use keep::keep_blocks;
-pub use laws::has_one_web_answer;
+pub use laws::{has_one_web_answer, loses_no_version};
 pub use server::{LoopServer, ServerTree};
 pub use web_edit::{WebEdit, WebReply};

@@ -1,4 +1,4 @@
-use Rattle.std.proofs.Common.{◌≡◌, ◌≤◌, ℕ, List, [], length, get_or, take, map, sym, ap, subst, ◌∙◌, arith}
+use Rattle.std.proofs.Common.{◌≡◌, ◌≤◌, ℕ, List, [], length, get_or, take, map, sym, ap, ◌∙◌, arith}
 use Rattle.nuc_blocks.specs.Blocks.{stored}
 use Rattle.nuc_blocks.specs.Store.{StoreState}
 use Rattle.nuc_hash.specs.Content.{blocks_of, digest_of}

@@ -2,7 +2,6 @@ use Rattle.std.proofs.Common.{◌≡◌, ◌+◌, refl, sym, subst, arith, rules
 use Rattle.nuc_base.specs.Kinds.{FitsKind}
 use Rattle.nuc_base.specs.Legal.{LegalPut}
 use Rattle.nuc_base.specs.Trees.{Nodes, IsVacant, WellFormed}
-use Rattle.nuc_base.specs.declared.node.Kind.TheVariants.{Folder}
 use Rattle.nuc_base.specs.declared.node.Node.{Node}
 use Rattle.nuc_journal.specs.Entries.{tree_of}
 use Rattle.nuc_server.specs.Paths.{place_in}

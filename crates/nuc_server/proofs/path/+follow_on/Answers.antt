@@ -1,4 +1,4 @@
-use Rattle.std.proofs.Common.{◌≡◌, ◌-◌, ℕ, List, MatchOption, take, length, drop, sym, subst}
+use Rattle.std.proofs.Common.{◌-◌, ℕ, List, MatchOption, take, length, drop, sym, subst}
 use Rattle.nuc_server.specs.Paths.{LeadsNowhereOn, LeadsOn, place_in}
 use Rattle.nuc_server.proofs.Following.{below_leads, first_and_rest}
 use Rattle.nuc_server.proofs.path.+follow_on.Goals as goal

@@ -1,4 +1,4 @@
-use Rattle.std.proofs.Common.{◌≡◌, ap, ◌∙◌}
+use Rattle.std.proofs.Common.{ap, ◌∙◌}
 use Rattle.nuc_hash.specs.Content.{ContentData, content_of}
 use Rattle.nuc_server.proofs.write.put_version.Goals as goal
 

@@ -1,4 +1,4 @@
-use Rattle.std.proofs.Common.{◌≡◌, ◌+◌, ◌≤◌, ◌∙◌, [], ◌∷◌, ◌++◌, sym, ap, subst, length, arith, rules, vec_len, vec_capacity}
+use Rattle.std.proofs.Common.{◌≡◌, ◌∙◌, [], ◌∷◌, ◌++◌, sym, ap, subst, length, arith, rules, vec_len, vec_capacity}
 use Rattle.nuc_journal.specs.declared.entry.Entry.{Entry}
 use Rattle.nuc_base.specs.Trees.{WellFormed}
 use Rattle.nuc_journal.proofs.Journals.{form_of}

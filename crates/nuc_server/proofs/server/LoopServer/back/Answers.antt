@@ -1,7 +1,7 @@
-use Rattle.std.proofs.Common.{◌≡◌, ◌+◌, ◌-◌, ◌≤◌, [], ◌∷◌, ◌++◌, length, take, sym, ◌∙◌, ap, subst, arith, rules, length-append}
+use Rattle.std.proofs.Common.{◌≡◌, ◌-◌, [], ◌∷◌, ◌++◌, length, sym, ◌∙◌, ap, subst, arith, length-append}
 use Rattle.nuc_base.specs.Trees.{WellFormed}
 use Rattle.nuc_journal.proofs.Journals.{form_at}
-use Rattle.nuc_server.proofs.Undoing.{StepBack, step_back}
+use Rattle.nuc_server.proofs.Undoing.{step_back}
 use Rattle.nuc_server.proofs.server.LoopServer.back.Goals as goal
 
 pub take_back-requires-clause-form : goal.take_back-requires-clause-form
