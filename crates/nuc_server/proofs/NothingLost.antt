@@ -183,7 +183,7 @@ ended s t x n Folder rev kind entered here form ends blocks = record {
   blocks = same_blocks s.blocks t.blocks blocks;
   kept = λ v some has. all_kept s.entries t.entries x None rev entered t.edits.edits v
       (λ k at ver. absurd (let same : k ≡ n = one_node (tree_of s.entries) x k n at here in
-        no_version n.kind n.ver.0 n.bit v kind (form.fits x n here) (ap (λ (n : Node). n.ver.0) (sym same) ∙ ver) some)) has;
+      no_version n.kind n.ver.0 n.bit v kind (form.fits x n here) (ap (λ (n : Node). n.ver.0) (sym same) ∙ ver) some)) has;
   put = tt;
 }
 ended s t x n File rev kind entered here form ends blocks = record {
@@ -194,7 +194,7 @@ ended s t x n File rev kind entered here form ends blocks = record {
   blocks = same_blocks s.blocks t.blocks blocks;
   kept = λ v some has. all_kept s.entries t.entries x None rev entered t.edits.edits v
       (λ k at ver. inr (let same : k ≡ n = one_node (tree_of s.entries) x k n at here in
-        subst (λ (r : Recorded). IsReplaced r.edits v) (sym ends.0) (last_replaced s.edits.edits _ v (ap (λ (n : Node). n.ver.0) (sym same) ∙ ver)))) has;
+      subst (λ (r : Recorded). IsReplaced r.edits v) (sym ends.0) (last_replaced s.edits.edits _ v (ap (λ (n : Node). n.ver.0) (sym same) ∙ ver)))) has;
   put = (tt, tt);
 }
 
