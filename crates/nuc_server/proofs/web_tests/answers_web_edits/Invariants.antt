@@ -3,4 +3,4 @@ use Rattle.nuc_server.specs.WebEdits.{IsNextId}
 use Rattle.nuc_server.proofs.web_tests.answers_web_edits.Given as goal
 
 abbrev pub invariant-loop-edit : goal.invariant-loop-edit
-invariant-loop-edit l = IsNext l.ids.next_ver l.edits.now.edits × IsNextId l.ids.next_id l.server.now
+invariant-loop-edit g l = IsNext l.ids.next_ver l.edits.now.edits × IsNextId l.ids.next_id l.server.now
