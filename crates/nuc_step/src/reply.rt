@@ -1,11 +1,13 @@
 use nuc_class::Op;
 use nuc_folder::{Item, UserReply};
+use nuc_server::WebReply;
 use sqlite_items::Items;
 
 /// How an event is answered.
 #[derive(Debug, Drop)]
 pub enum Reply {
     User(UserReply),
+    Web(WebReply),
     /// The listing, and how often Local had changed when it began.
     Listed { changes: u64, items: Items<Item> },
     Scan(ScanReply),
