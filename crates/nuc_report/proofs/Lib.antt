@@ -1,2 +1,3 @@
+mod Web
 mod Lines
 mod Walk

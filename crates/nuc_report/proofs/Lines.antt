@@ -19,6 +19,7 @@ use Rattle.nuc_step.specs.declared.log.LogEntry.TheVariants.{Stepped}
 use Rattle.nuc_report.specs.Line.{joined, line, escaped}
 use Rattle.nuc_report.specs.Entry.{content_words, item_line, event_words, reply_words, reply_lines, entry_text}
 use Rattle.nuc_report.specs.Report.{change_words, edit_line}
+use Rattle.nuc_report.proofs.Web.{web_reply_has_words}
 
 line-joined : (words : List (List ℕ)) → words ≢ [] → line words ≡ joined words ++ 10 ∷ []
 line-joined [] some = absurd (some refl)
@@ -36,6 +37,7 @@ line-append (word ∷ next ∷ words) more some others =
 
 event_has_words : (event : Event) → event_words event ≢ []
 event_has_words (event.User client edit) = λ e. cc
+event_has_words (event.Web edit) = λ e. cc
 event_has_words (event.List client) = λ e. cc
 event_has_words (event.Scan client) = λ e. cc
 event_has_words (event.Pull client) = λ e. cc
@@ -47,6 +49,7 @@ event_has_words (event.Mark client) = λ e. cc
 
 reply_has_words : (reply : Reply) → reply_words reply ≢ []
 reply_has_words (reply.User answer) = λ e. cc
+reply_has_words (reply.Web answer) = web_reply_has_words answer
 reply_has_words (reply.Listed changes items) = λ e. cc
 reply_has_words (reply.Scan (scan.Changed count)) = λ e. cc
 reply_has_words (reply.Pulled entries cursor) = λ e. cc

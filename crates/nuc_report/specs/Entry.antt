@@ -2,10 +2,7 @@ use Rattle.std.specs.Prelude.{ℕ, List, [], ◌∷◌, ◌++◌, Bool, true, fa
 use Rattle.std.specs.Fmt.{decimal}
 use Rattle.std.specs.List.{flat_map}
 use Rattle.hex.specs.Hex.{encode_lower}
-use Rattle.nuc_base.specs.declared.path.Path.{Path}
 use Rattle.nuc_hash.specs.Content.{ContentData}
-use Rattle.nuc_hash.specs.declared.filling.Filling.{Filling}
-use Rattle.nuc_hash.specs.declared.filling.Filling.TheVariants.{Given}
 use Rattle.nuc_folder.specs.declared.item.Item.{Item}
 use Rattle.nuc_folder.specs.declared.user.UserEdit.{UserEdit}
 use Rattle.nuc_folder.specs.declared.user.UserEdit.TheVariants.{Write}
@@ -27,14 +24,8 @@ use Rattle.nuc_step.specs.declared.reply.MarkReply.TheVariants as mark
 use Rattle.nuc_step.specs.declared.log.LogEntry.{LogEntry}
 use Rattle.nuc_step.specs.declared.log.LogEntry.TheVariants.{Opened, Stepped}
 use Rattle.nuc_report.specs.Line.{line, escaped}
-
--- each name after a `/`
-abbrev pub path_word : Path → List ℕ
-path_word path = flat_map (λ name. 47 ∷ escaped name) path.names
-
--- `=` and the bytes
-abbrev pub filling_word : Filling → List ℕ
-filling_word (Given bytes) = 61 ∷ escaped bytes
+use Rattle.nuc_report.specs.Words.{path_word, filling_word}
+use Rattle.nuc_report.specs.Web.{web_words, web_reply_words}
 
 -- kind, size and hash; a folder has no bytes
 abbrev pub content_words : Option ContentData → List (List ℕ)
@@ -56,6 +47,7 @@ edit_words (Write path filling) = codes "write" ∷ path_word path ∷ filling_w
 
 abbrev pub event_words : Event → List (List ℕ)
 event_words (event.User client edit) = codes "user" ∷ decimal client ∷ edit_words edit
+event_words (event.Web edit) = codes "web" ∷ web_words edit
 event_words (event.List client) = codes "list" ∷ decimal client ∷ []
 event_words (event.Scan client) = codes "scan" ∷ decimal client ∷ []
 event_words (event.Pull client) = codes "pull" ∷ decimal client ∷ []
@@ -72,6 +64,7 @@ user_word user.Memory = codes "memory"
 
 abbrev pub reply_words : Reply → List (List ℕ)
 reply_words (reply.User answer) = user_word answer ∷ []
+reply_words (reply.Web answer) = web_reply_words answer
 reply_words (reply.Listed changes items) = decimal changes ∷ decimal (length items) ∷ []
 reply_words (reply.Scan (scan.Changed count)) = codes "changed" ∷ decimal count ∷ []
 reply_words (reply.Pulled entries cursor) = decimal entries ∷ decimal cursor ∷ []

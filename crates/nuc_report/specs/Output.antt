@@ -45,9 +45,15 @@ status_text ended = line (codes "status" ∷ decimal (status_number ended) ∷ s
 abbrev pub usage_text : List ℕ
 usage_text =
     line (codes "usage: nucleus run < SCRIPT" ∷ [])
-    ++ line (codes "Runs a script of folder edits and syncs, then prints each step and what server and client hold." ∷ [])
-    ++ line (codes "  write 1 /PATH =BYTES  the user makes a file, or replaces its bytes" ∷ [])
-    ++ line (codes "  sync 1                the client brings the server what is new" ∷ [])
+    ++ line (codes "Runs a script of folder edits, web edits, pulls and syncs, then prints each step and what server and client hold." ∷ [])
+    ++ line (codes "  write 1 /PATH =BYTES    the user makes a file, or replaces its bytes" ∷ [])
+    ++ line (codes "  web mkdir /PATH         the web makes a folder" ∷ [])
+    ++ line (codes "  web write /PATH =BYTES  the web makes a file, or replaces its bytes" ∷ [])
+    ++ line (codes "  web move /PATH /PATH    the web moves what stands at the first path to the second" ∷ [])
+    ++ line (codes "  web remove /PATH        the web removes a file, or a folder with nothing in it" ∷ [])
+    ++ line (codes "  web bit /PATH on|off    the web says whether a file may be executed" ∷ [])
+    ++ line (codes "  pull 1                  the client asks the server for what is new" ∷ [])
+    ++ line (codes "  sync 1                  the client brings the server what is new" ∷ [])
 
 -- what a run prints that has no report: one that couldn't begin says why, one without sink or memory prints nothing
 abbrev pub refusal_text : Status → List ℕ

@@ -4,6 +4,7 @@ ghost use Rattle.nuc_report.specs.Line.{joined};
 ghost use Rattle.nuc_report.specs.Entry.{content_words, item_line, op_line, edit_words, event_words, reply_words, reply_lines, entry_text, user_word, verb_word};
 ghost use Rattle.std.specs.List.{flat_map};
 
+use crate::web::{web_reply_text, web_text};
 use crate::words::{escaped, filling_word, path_word};
 use nuc_class::{Op, Verb};
 use nuc_folder::{Item, UserEdit, UserReply};
@@ -84,6 +85,10 @@ fn event_text(alloc: Global, event: &Event) -> Result<String, AllocError>
             let edit = edit_text(alloc, edit)?;
             format!(in alloc; "user {client} {edit}")
         }
+        Event::Web { edit } => {
+            let edit = web_text(alloc, edit)?;
+            format!(in alloc; "web {edit}")
+        }
         Event::List { client } => format!(in alloc; "list {client}"),
         Event::Scan { client } => format!(in alloc; "scan {client}"),
         Event::Pull { client } => format!(in alloc; "pull {client}"),
@@ -100,6 +105,7 @@ fn reply_text(alloc: Global, reply: &Reply) -> Result<String, AllocError>
 {
     match reply {
         Reply::User(answer) => String::from_str(alloc, user_word(answer)),
+        Reply::Web(answer) => web_reply_text(alloc, answer),
         Reply::Listed { changes, items } => {
             let count = items.len();
             format!(in alloc; "{changes} {count}")

@@ -6,6 +6,7 @@ mod state;
 mod status;
 #[cfg(test)]
 mod tests;
+mod web;
 mod whole;
 mod words;
 

@@ -12,9 +12,15 @@ use nuc_step::{Log, LogEntry, PlanReply, Reply, View};
 use std::alloc::{AllocError, Global};
 
 const USAGE: &str = "usage: nucleus run < SCRIPT\n\
-    Runs a script of folder edits and syncs, then prints each step and what server and client hold.\n\
-    \x20 write 1 /PATH =BYTES  the user makes a file, or replaces its bytes\n\
-    \x20 sync 1                the client brings the server what is new\n";
+    Runs a script of folder edits, web edits, pulls and syncs, then prints each step and what server and client hold.\n\
+    \x20 write 1 /PATH =BYTES    the user makes a file, or replaces its bytes\n\
+    \x20 web mkdir /PATH         the web makes a folder\n\
+    \x20 web write /PATH =BYTES  the web makes a file, or replaces its bytes\n\
+    \x20 web move /PATH /PATH    the web moves what stands at the first path to the second\n\
+    \x20 web remove /PATH        the web removes a file, or a folder with nothing in it\n\
+    \x20 web bit /PATH on|off    the web says whether a file may be executed\n\
+    \x20 pull 1                  the client asks the server for what is new\n\
+    \x20 sync 1                  the client brings the server what is new\n";
 
 /// All that a run prints that ended well: log, report, summary and status.
 pub fn output<T: TreeLike>(

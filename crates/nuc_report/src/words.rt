@@ -1,7 +1,7 @@
 ghost use Rattle.std.specs.Prelude.{◌≡◌, ◌∷◌, ◌++◌, ◌<◌, IfOk, OnOk, true};
 ghost use Rattle.std.specs.String.{string_bytes};
 ghost use Rattle.nuc_report.specs.Line.{is_plain, hex_digit, escape, escaped};
-ghost use Rattle.nuc_report.specs.Entry.{path_word, filling_word};
+ghost use Rattle.nuc_report.specs.Words.{path_word, filling_word};
 
 use nuc_base::Path;
 use nuc_hash::Filling;
