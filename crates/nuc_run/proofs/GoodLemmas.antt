@@ -1,5 +1,7 @@
 -- What the steps of a script keep.
-use Rattle.std.proofs.Common.{◌≡◌, ◌≢◌, ◌<◌, ◌+◌, ◌==◌, ℕ, zero, suc, true, false, cond, List, [], ◌∷◌, ◌++◌, length, map, find, insert, slice_index_or, Option, None, Some, IsSome, Result, Ok, Err, is_err, true≢false, OnOk, OnErr, refl, sym, ◌∙◌, ap, subst, inl, inr, arith, length-append}
+use Rattle.std.proofs.Common.{◌≡◌, ◌≢◌, ◌<◌, ◌≤◌, ◌+◌, ◌==◌, ℕ, zero, suc, true, false, cond, List, [], ◌∷◌, ◌++◌, length, map, find, insert, slice_index_or, Option, None, Some, IsSome, Result, Ok, Err, is_err, true≢false, OnOk, OnErr, refl, sym, ◌∙◌, ap, subst, inl, inr, arith, length-append}
+use Rattle.std.proofs.lemmas.Bool.{cases_lt}
+use Rattle.std.proofs.lemmas.List.{take_all}
 use Rattle.std.specs.List.{AllPairs}
 use Rattle.std.specs.Ordering.{nat_cmp}
 use Rattle.std.specs.FinMap as tree
@@ -12,7 +14,7 @@ use Rattle.nuc_base.specs.declared.node.Counters.{Counters}
 use Rattle.nuc_base.specs.declared.node.Node.{Node}
 use Rattle.nuc_base.proofs.Forms.{empty_form}
 use Rattle.nuc_base.proofs.Maps.{after_put, get_put_other, same_or_not, not_both}
-use Rattle.nuc_edits.specs.Edits.{EditsState}
+use Rattle.nuc_edits.specs.Edits.{EditsState, Recorded}
 use Rattle.nuc_edits.specs.declared.edit.Edit.{Edit}
 use Rattle.nuc_folder.specs.Folder.{FileData, FolderData}
 use Rattle.nuc_folder.specs.Listing.{item_of, has_key}
@@ -27,9 +29,12 @@ use Rattle.nuc_base.specs.declared.change.Change.TheVariants.{Put}
 use Rattle.std.specs.Result.{is_err}
 use Rattle.nuc_run.specs.declared.client.Binding.{Binding}
 use Rattle.nuc_journal.specs.declared.entry.Entry.{Entry}
+use Rattle.nuc_server.specs.WebEdits.{IsNextId}
+use Rattle.nuc_run.specs.Calm.{Calm}
 use Rattle.nuc_run.specs.Good.{AllPut, IsAmong, AreNamedElse, AreApart, IsBound, IsObserved, AreKept, InStep, Good, IsUpload}
 use Rattle.nuc_run.specs.Scan.{key_of}
 use Rattle.nuc_journal.specs.Entries.{tree_of}
+use Rattle.nuc_journal.proofs.Lists.{push_cases}
 use Rattle.nuc_run.specs.State.{State, fresh}
 use Rattle.nuc_run.specs.World.{at_rest}
 use Rattle.nuc_run.specs.declared.world.World.{World}
@@ -57,6 +62,33 @@ good_fresh = record {
     cursor_is = refl;
     within = λ x n e. absurd (not_both tree.empty x n (get-empty nat_cmp x) e);
   };
+  identities = record { some = omega arith; above = λ k e at. cc };
+}
+
+-- IDENTITIES
+pub numbered_wider : (n m : ℕ) (es : List Entry) → n ≤ m → IsNextId n es → IsNextId m es
+numbered_wider n m es wide ids = record {
+  some = (let some = ids.some in omega arith);
+  above = λ k e at. let low = ids.above k e at in omega arith;
+}
+
+pub numbered_more : (n x : ℕ) (es : List Entry) (node : Node) → x < n → IsNextId n es → IsNextId n (es ++ next_entry es x node ∷ [])
+numbered_more n x es node below ids = record {
+  some = ids.some;
+  above = λ k e at. elim (push_cases es (next_entry es x node) k e at) [
+    | inl (lt, old) ↦ ids.above k e old
+    | inr (end, same) ↦ subst (λ (e : Entry). e.id.0 < n) same below
+  ];
+}
+
+-- what holds before any web edit
+pub calm_of : (s : State) → Good s → Calm s
+calm_of s good = record {
+  remote_form = good.step.remote_form;
+  pulled = good.step.pulled ∙ sym good.step.served ∙ ap tree_of (sym (take_all s.client.cursor s.server (let all = good.step.cursor_is in omega arith)));
+  cursor = (let all = good.step.cursor_is in omega arith);
+  versions = good.observed.versions;
+  identities = good.identities;
 }
 
 -- THE FOLDER
@@ -154,6 +186,10 @@ put_more : (es : List Entry) (e : Entry) → IsSome e.value → AllPut es → Al
 put_more [] e some puts = (some, tt)
 put_more (f ∷ fs) e some puts = (puts.0, put_more fs e some puts.1)
 
+-- a key that is missing after all
+pub no_key : (x k : ℕ) (ks keys : List Binding) → ks ≡ keys → ◌≡◌ {A = Option ℕ} None (key_of x ks) → key_of x keys ≡ Some k → ⊥
+no_key x k ks keys same none some = let clash : ◌≡◌ {A = Option ℕ} None (Some k) = none ∙ ap (key_of x) same ∙ some in cc
+
 -- UPLOADS
 module _ (s : State) (good : Good s) (op : Op) (up : IsUpload s.client.local s.client.synced op) where
   pub upload_bound : IsBound s.client.keys (listing s.folder) op.id.0 up.node
@@ -163,6 +199,13 @@ module _ (s : State) (good : Good s) (op : Op) (up : IsUpload s.client.local s.c
   upload_id = elim (same_or_not op.id.0 0) [
     | inl zero_id ↦ absurd (not_both s.client.local 0 up.node good.observed.form.no_root (subst (λ x. tree.get s.client.local x ≡ Some up.node) zero_id up.here))
     | inr other ↦ omega arith
+  ]
+
+  -- its identity was drawn
+  pub upload_drawn : op.id.0 < s.ids.next_id
+  upload_drawn = elim (cases_lt op.id.0 s.ids.next_id) [
+    | inl below ↦ below
+    | inr above ↦ absurd (no_key op.id.0 _ s.client.keys s.client.keys refl (sym (good.observed.fresh op.id.0 above)) upload_bound.key)
   ]
 
   pub upload_fits : FitsKind up.node
@@ -231,10 +274,7 @@ answered_folder e old new reply.Ok other answers = sym (ap (λ p. p.1) answers)
 answered_folder e old new reply.NoParent other answers = sym (ap (λ p. p.1) answers)
 answered_folder e old new reply.Memory other answers = absurd (other refl)
 
--- a key that is missing after all
-pub no_key : (x k : ℕ) (ks keys : List Binding) → ks ≡ keys → ◌≡◌ {A = Option ℕ} None (key_of x ks) → key_of x keys ≡ Some k → ⊥
-no_key x k ks keys same none some = let clash : ◌≡◌ {A = Option ℕ} None (Some k) = none ∙ ap (key_of x) same ∙ some in cc
-
+-- a key that is another after all
 pub one_key : (x k j : ℕ) (ks keys : List Binding) → ks ≡ keys → ◌≡◌ {A = Option ℕ} (Some j) (key_of x ks) → key_of x keys ≡ Some k → j ≡ k
 one_key x k j ks keys same found some = let one : ◌≡◌ {A = Option ℕ} (Some j) (Some k) = found ∙ ap (key_of x) same ∙ some in cc
 
@@ -258,10 +298,11 @@ upload_synced l s op up = ap (λ (o : Op). o.synced) up.shape
 pub record Scanned (s : State) (local : Nodes) (keys : List Binding) (edits : List Edit) (ids : Counters) : Type 0 where
   pub observed : IsObserved (listing s.folder) local keys edits ids
   pub step : InStep s.server s.client.remote local s.client.synced s.client.cursor
+  pub identities : IsNextId ids.next_id s.server
 
 pub good_scanned : (s : State) (items : List Item) (local : Nodes) (keys : List Binding) (edits : List Edit) (ids : Counters) → Good s
-    → items ≡ listing s.folder → IsObserved items local keys edits ids → AreKept s.client.local local → Scanned s local keys edits ids
-good_scanned s items local keys edits ids good same fits kept = record {
+    → items ≡ listing s.folder → IsObserved items local keys edits ids → AreKept s.client.local local → s.ids.next_id ≤ ids.next_id → Scanned s local keys edits ids
+good_scanned s items local keys edits ids good same fits kept counted = record {
   observed = subst (λ items. IsObserved items local keys edits ids) same fits;
   step = record {
     remote_form = good.step.remote_form;
@@ -272,15 +313,17 @@ good_scanned s items local keys edits ids good same fits kept = record {
     cursor_is = good.step.cursor_is;
     within = λ x n at. kept x n (good.step.within x n at);
   };
+  identities = numbered_wider s.ids.next_id ids.next_id s.server counted good.identities;
 }
 
-pub fresh_world : (w : World) → w.server.now ≡ [] → w.store.now ≡ [] → (edits : EditsState) → w.edits ≡ edits → edits.now.edits ≡ [] → w.ids ≡ record { next_id = 1; next_ver = 1 } → w.folder ≡ record { files = []; next_key = 1 }
+pub fresh_world : (w : World) → w.server.now ≡ [] → w.store.now ≡ [] → (edits : EditsState) → w.edits ≡ edits → edits.now ≡ record { edits = []; adoptions = [] } → w.ids ≡ record { next_id = 1; next_ver = 1 } → w.folder ≡ record { files = []; next_key = 1 }
     → w.client.remote.nodes ≡ tree.empty → w.client.local.nodes ≡ tree.empty → w.client.synced.nodes ≡ tree.empty
     → w.client ≡ record w.client { keys = []; cursor = 0; changes = 0; next_op = 1 } → at_rest w ≡ fresh
 fresh_world w server blocks edits same none ids folder remote local synced others = λ i. record {
   server = server i;
   blocks = blocks i;
-  edits = (ap (λ (e : EditsState). e.now.edits) same ∙ none) i;
+  edits = (ap (λ (e : EditsState). e.now.edits) same ∙ ap (λ (r : Recorded). r.edits) none) i;
+  adoptions = (ap (λ (e : EditsState). e.now.adoptions) same ∙ ap (λ (r : Recorded). r.adoptions) none) i;
   ids = ids i;
   folder = folder i;
   client = record {

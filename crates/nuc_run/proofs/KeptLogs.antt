@@ -7,8 +7,11 @@ use Rattle.std.specs.FinMap as tree
 use Rattle.nuc_base.specs.Trees.{Nodes, WellFormed}
 use Rattle.nuc_base.proofs.Maps.{not_both, same_nodes}
 use Rattle.nuc_edits.specs.declared.edit.Edit.{Edit}
+use Rattle.nuc_edits.specs.declared.edit.EditKind.{EditKind}
+use Rattle.nuc_edits.specs.declared.edit.EditKind.TheVariants.{Put, Deleted}
 use Rattle.nuc_report.specs.declared.status.Status.{Status}
 use Rattle.nuc_report.specs.declared.status.Status.TheVariants as status
+use Rattle.nuc_script.specs.Grammar.{IsScript}
 use Rattle.nuc_script.specs.declared.command.Command.{Command}
 use Rattle.nuc_step.specs.declared.event.Event.{Event}
 use Rattle.nuc_step.specs.declared.event.Event.TheVariants as event
@@ -23,24 +26,29 @@ use Rattle.nuc_run.specs.Plan.{batch, due_at, numbered}
 use Rattle.nuc_run.specs.Runs.{IsEarlyLog, IsWholeLog, Leads, opening}
 use Rattle.nuc_journal.specs.Entries.{tree_of}
 use Rattle.nuc_server.specs.Versions.{HasVersion}
-use Rattle.nuc_run.specs.Sound.{AreEqual, FitsPlan, IsExactThroughout, IsSound, IsSoundThroughout, PlansExactly}
+use Rattle.nuc_run.specs.Sound.{AreEqual, FitsPlan, IsExactThroughout, IsKept, IsKeptAs, IsSound, IsSoundThroughout, PlansExactly}
 use Rattle.nuc_run.specs.State.{State, fresh}
-use Rattle.nuc_run.specs.Step.{Answers, after, planned_batch}
+use Rattle.nuc_run.specs.Step.{Answers, planned_batch}
 use Rattle.nuc_run.proofs.Kept.{IsTakenAs, Kept, StandIn}
 use Rattle.nuc_run.proofs.KeptServer.{entered, last_entry}
 use Rattle.nuc_run.proofs.KeptSteps.{kept_after, kept_fresh}
 use Rattle.nuc_run.proofs.PlanLemmas.{empty_agrees}
+use Rattle.nuc_run.proofs.Behind.{Behind, behind_along, behind_web}
+use Rattle.nuc_run.proofs.OneStep.{step_one}
+use Rattle.nuc_run.proofs.Ordered.{InOrder, IsWeb, front_in_order, no_plan_behind, script_in_order}
+use Rattle.nuc_run.proofs.RunLemmas.{IsStep, first_step, led_by}
 
--- EACH POINT
-kept_along : (w v : State) (es : List LogEntry) → Leads w es v → Kept w → Kept v
-kept_along w v [] is kept = subst Kept is kept
-kept_along w v (entry.Opened clients found ∷ es) leads kept = absurd leads
-kept_along w v (entry.Stepped e r ∷ es) leads kept = kept_along (after w e) v es leads.1 (kept_after w e kept)
+kept_as : (s : State) (what : EditKind) (v : ℕ) → HasVersion s.client.local v → IsKeptAs s what v
+kept_as s (Put content) v here = λ above. inr (inl here)
+kept_as s Deleted v here = tt
 
-stand_at : (l : Nodes) (es : List Edit) → StandIn l es → All (λ e. HasVersion l e.ver.0) es
-stand_at l [] stand k d below = absurd (omega arith)
-stand_at l (e ∷ es) stand zero d below = let (n, here, ver) = stand.0 in record { id = e.id.0; node = n; here = here; ver = ver }
-stand_at l (e ∷ es) stand (suc k) d below = stand_at l es stand.1 k d (omega arith)
+-- EACH POINT, before a web edit and behind one
+stand_at : (s : State) (l : Nodes) (es : List Edit) → s.client.local ≡ l → StandIn l es → All (λ e. IsKept s e) es
+stand_at s l [] same stand k d below = absurd (omega arith)
+stand_at s l (e ∷ es) same stand zero d below =
+    let (n, here, ver) = stand.0 in
+    kept_as s e.what e.ver.0 (subst (λ l. HasVersion l e.ver.0) (sym same) (record { id = e.id.0; node = n; here = here; ver = ver }))
+stand_at s l (e ∷ es) same stand (suc k) d below = stand_at s l es same stand.1 k d (omega arith)
 
 sound : (s : State) → Kept s → IsSound s
 sound s kept = record {
@@ -49,11 +57,43 @@ sound s kept = record {
   synced = kept.synced_form;
   cursor = kept.cursor;
   pulled = kept.pulled;
-  accounted = λ k d below. inr (inl (stand_at s.client.local s.edits kept.stand k d below));
+  accounted = stand_at s s.client.local s.edits refl kept.stand;
 }
 
-pub sound_throughout : (log : List LogEntry) → IsSoundThroughout log
-sound_throughout log es rest s is leads = sound s (kept_along fresh s es leads kept_fresh)
+-- a step leads behind a web edit where it is one, and else keeps what is kept
+kept_step : (s t : State) (e : Event) (r : Reply) → IsStep s e r t → Kept s → (IsWeb e × Behind t) ⊎ Kept t
+kept_step s t (event.Web edit) (reply.Web answer) step kept = inl (tt, behind_web s t edit answer (sound s kept) step)
+kept_step s t (event.Web edit) _ step kept = absurd step
+kept_step s t (event.User c edit) r step kept = inr (subst Kept step.1 (kept_after s (event.User c edit) kept))
+kept_step s t (event.List c) r step kept = inr (subst Kept step.1 (kept_after s (event.List c) kept))
+kept_step s t (event.Scan c) r step kept = inr (subst Kept step.1 (kept_after s (event.Scan c) kept))
+kept_step s t (event.Pull c) r step kept = inr (subst Kept step.1 (kept_after s (event.Pull c) kept))
+kept_step s t (event.Plan c) r step kept = inr (subst Kept step.1 (kept_after s (event.Plan c) kept))
+kept_step s t (event.Start c n) r step kept = inr (subst Kept step.1 (kept_after s (event.Start c n) kept))
+kept_step s t (event.Take c n) r step kept = inr (subst Kept step.1 (kept_after s (event.Take c n) kept))
+kept_step s t (event.Done c n) r step kept = inr (subst Kept step.1 (kept_after s (event.Done c n) kept))
+kept_step s t (event.Mark c) r step kept = inr (subst Kept step.1 (kept_after s (event.Mark c) kept))
+
+sound_along : (w v : State) (es : List LogEntry) → Leads w es v → InOrder es → Kept w → IsSound v
+sound_along w v [] is order kept = subst IsSound is (sound w kept)
+sound_along w v (entry.Opened clients found ∷ es) leads order kept = absurd leads
+sound_along w v (entry.Stepped e r ∷ es) leads order kept =
+    let (t, step, rest) = first_step w v e r es leads in
+    elim (kept_step w t e r step kept) [
+      | inl (web, behind) ↦ (behind_along t v es rest (order.0 web) behind).sound
+      | inr still ↦ sound_along t v es rest order.1 still
+    ]
+
+-- before a plan no web edit came
+kept_to_plan : (w v : State) (es rest : List LogEntry) (client : ℕ) (r : Reply) → Leads w es v → InOrder (es ++ entry.Stepped (event.Plan client) r ∷ rest) → Kept w → Kept v
+kept_to_plan w v [] rest client r is order kept = subst Kept is kept
+kept_to_plan w v (entry.Opened clients found ∷ es) rest client r leads order kept = absurd leads
+kept_to_plan w v (entry.Stepped e q ∷ es) rest client r leads order kept =
+    let (t, step, more) = first_step w v e q es leads in
+    elim (kept_step w t e q step kept) [
+      | inl (web, behind) ↦ absurd (no_plan_behind es rest client r (order.0 web))
+      | inr still ↦ kept_to_plan t v es rest client r more order.1 still
+    ]
 
 -- A PLAN is made with nothing in flight, and then Remote and Synced are the server's tree
 module _ (s : State) (kept : Kept s) (landed : s.client.flights ≡ []) where
@@ -108,37 +148,67 @@ equal_is_empty s (remote, local) =
     ∙ ap (λ l. batch s.client.next_op s.client.synced l s.client.synced) local
     ∙ nothing_planned s.client.next_op s.client.synced
 
--- each entry of a log was answered in the state to which those before it lead
-answered_at : (w v s : State) (es rest : List LogEntry) (e : Event) (r : Reply) → Leads w (es ++ entry.Stepped e r ∷ rest) v → Leads w es s → Answers s e r
-answered_at w v s [] rest e r all is = subst (λ w. Answers w e r) is all.0
-answered_at w v s (entry.Opened clients found ∷ es) rest e r all before = absurd all
-answered_at w v s (entry.Stepped f q ∷ es) rest e r all before = answered_at (after w f) v s es rest e r all.1 before.1
-
 plan_exact : (s : State) (client : ℕ) (answer : PlanReply) → Kept s → Answers s (event.Plan client) (reply.Plan answer) → FitsPlan s.client answer
 plan_exact s client plan.Empty kept holds = empty_is_equal s kept holds.1.0 holds.1.1
 plan_exact s client (plan.Batch ops) kept holds = λ equal. let said = holds.1 in said.2 (said.1 ∙ equal_is_empty s equal)
 
-exact_at : (w v s : State) (es rest : List LogEntry) (e : LogEntry) → Kept s → Leads w (es ++ e ∷ rest) v → Leads w es s → PlansExactly s e
-exact_at w v s es rest (entry.Opened clients found) kept all before = tt
-exact_at w v s es rest (entry.Stepped (event.Plan client) (reply.Plan answer)) kept all before =
-    plan_exact s client answer kept (answered_at w v s es rest (event.Plan client) (reply.Plan answer) all before)
-exact_at w v s es rest (entry.Stepped _ _) kept all before = tt
+-- the plan was answered in the state to which the entries before it lead
+plan_answered : (w v s : State) (es rest : List LogEntry) (client : ℕ) (r : Reply)
+    → Leads w (es ++ entry.Stepped (event.Plan client) r ∷ rest) v → Leads w es s → Answers s (event.Plan client) r
+plan_answered w v s [] rest client r all is = subst (λ w. Answers w (event.Plan client) r) is all.0
+plan_answered w v s (entry.Opened clients found ∷ es) rest client r all before = absurd all
+plan_answered w v s (entry.Stepped e q ∷ es) rest client r all before =
+    let (t, step, more) = first_step w v e q (es ++ entry.Stepped (event.Plan client) r ∷ rest) all in
+    let (u, other, less) = first_step w s e q es before in
+    plan_answered t v s es rest client r more (led_by t u s es (step_one w e q q t u step other).1 less)
 
-exact_of_leads : (log entries : List LogEntry) (end : State) → log ≡ opening ∷ entries → Leads fresh entries end → IsExactThroughout log
-exact_of_leads log entries end opened leads es rest e s is before =
-    let same : entries ≡ es ++ e ∷ rest = (let both : opening ∷ entries ≡ opening ∷ (es ++ e ∷ rest) = sym opened ∙ is in cc) in
-    exact_at fresh end s es rest e (kept_along fresh s es before kept_fresh) (subst (λ es. Leads fresh es end) same leads) before
+exact_at : (v s : State) (es rest : List LogEntry) (e : LogEntry) → Leads fresh (es ++ e ∷ rest) v → InOrder (es ++ e ∷ rest) → Leads fresh es s → PlansExactly s e
+exact_at v s es rest (entry.Opened clients found) all order before = tt
+exact_at v s es rest (entry.Stepped (event.Plan client) (reply.Plan answer)) all order before =
+    plan_exact s client answer (kept_to_plan fresh s es rest client (reply.Plan answer) before order kept_fresh)
+    (plan_answered fresh v s es rest client (reply.Plan answer) all before)
+exact_at v s es rest (entry.Stepped _ _) all order before = tt
 
-exact_of_whole : (cs : List Command) (log : List LogEntry) → IsWholeLog cs log → IsExactThroughout log
-exact_of_whole cs log whole = exact_of_leads log whole.entries whole.end whole.opened whole.runs.leads
+-- THE LOG of a script, or the first part of it where it ended early
+pub record Opens (log : List LogEntry) : Type 0 where
+  pub entries : List LogEntry
+  pub end : State
+  pub opened : (log ≡ []) ⊎ (log ≡ opening ∷ entries)
+  pub leads : Leads fresh entries end
+  pub order : InOrder entries
 
-exact_of_early : (cs : List Command) (log : List LogEntry) → IsEarlyLog cs log → IsExactThroughout log
-exact_of_early cs log early es rest e s is before = elim early.opened [
-  | inl none ↦ absurd (let clash : ◌≡◌ {A = List LogEntry} [] (opening ∷ (es ++ e ∷ rest)) = sym none ∙ is in cc)
-  | inr opened ↦ exact_of_leads log early.entries early.end opened early.runs.leads es rest e s is before
+opens : (cs : List Command) (before : Status) (log : List LogEntry) → IsScript cs → (before ≡ status.Ok) ⊎ (before ≡ status.Memory)
+    → (before ≡ status.Ok → IsWholeLog cs log) → (before ≡ status.Memory → IsEarlyLog cs log) → Opens log
+opens cs before log script (inl ok) whole early = let w = whole ok in record {
+  entries = w.entries;
+  end = w.end;
+  opened = inr w.opened;
+  leads = w.runs.leads;
+  order = script_in_order cs w.entries [] script w.runs.asked;
+}
+opens cs before log script (inr memory) whole early = let e = early memory in record {
+  entries = e.entries;
+  end = e.end;
+  opened = e.opened;
+  leads = e.runs.leads;
+  order = script_in_order cs e.entries e.left script e.runs.asked;
+}
+
+entries_are : (log es : List LogEntry) (o : Opens log) → log ≡ opening ∷ es → o.entries ≡ es
+entries_are log es o is = elim o.opened [
+  | inl none ↦ absurd (let clash : ◌≡◌ {A = List LogEntry} [] (opening ∷ es) = sym none ∙ is in cc)
+  | inr opened ↦ let both : opening ∷ o.entries ≡ opening ∷ es = sym opened ∙ is in cc
 ]
 
-pub exact_throughout : (cs : List Command) (before : Status) (log : List LogEntry) → (before ≡ status.Ok) ⊎ (before ≡ status.Memory)
+pub sound_throughout : (cs : List Command) (before : Status) (log : List LogEntry) → IsScript cs → (before ≡ status.Ok) ⊎ (before ≡ status.Memory)
+    → (before ≡ status.Ok → IsWholeLog cs log) → (before ≡ status.Memory → IsEarlyLog cs log) → IsSoundThroughout log
+sound_throughout cs before log script status whole early es rest s is leads =
+    let o = opens cs before log script status whole early in
+    sound_along fresh s es leads (front_in_order es rest (subst InOrder (entries_are log (es ++ rest) o is) o.order)) kept_fresh
+
+pub exact_throughout : (cs : List Command) (before : Status) (log : List LogEntry) → IsScript cs → (before ≡ status.Ok) ⊎ (before ≡ status.Memory)
     → (before ≡ status.Ok → IsWholeLog cs log) → (before ≡ status.Memory → IsEarlyLog cs log) → IsExactThroughout log
-exact_throughout cs before log (inl ok) whole early = exact_of_whole cs log (whole ok)
-exact_throughout cs before log (inr memory) whole early = exact_of_early cs log (early memory)
+exact_throughout cs before log script status whole early es rest e s is leads =
+    let o = opens cs before log script status whole early in
+    let same = entries_are log (es ++ e ∷ rest) o is in
+    exact_at o.end s es rest e (subst (λ es. Leads fresh es o.end) same o.leads) (subst InOrder same o.order) leads

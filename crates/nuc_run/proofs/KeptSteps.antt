@@ -406,6 +406,7 @@ kept_done s n kept = elim (flight_of n s.client.flights) as (λ o. flight_of n s
 -- EVERY STEP
 pub kept_after : (s : State) (e : Event) → Kept s → Kept (after s e)
 kept_after s (event.User client edit) kept = kept_user edit s kept
+kept_after s (event.Web edit) kept = kept
 kept_after s (event.List client) kept = kept_list s kept
 kept_after s (event.Scan client) kept = kept_scan s s.client.held kept.held kept
 kept_after s (event.Pull client) kept = kept_pull s kept

@@ -11,10 +11,15 @@ pub mod CommitLemmas
 pub mod UploadAnswers
 pub mod BatchRun
 pub mod SyncLemmas
+pub mod OneStep
 pub mod OneOutcome
+pub mod Ordered
 pub mod Kept
 pub mod KeptScan
 pub mod KeptServer
 pub mod KeptSteps
+pub mod WebLemmas
+pub mod PullLemmas
+pub mod Behind
 pub mod KeptLogs
 pub mod RunOutput

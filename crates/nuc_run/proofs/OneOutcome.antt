@@ -1,69 +1,19 @@
 -- A script has one whole log, and a run one outcome.
 use Rattle.std.proofs.Common.{◌≡◌, ℕ, false, List, [], ◌∷◌, ◌++◌, Option, None, Some, refl, sym, ◌∙◌, ap, subst}
-use Rattle.std.specs.Option.{IsSomeAnd}
 use Rattle.nuc_script.specs.declared.command.Command.{Command}
 use Rattle.nuc_script.specs.declared.script_read.ScriptRead.TheVariants as read
 use Rattle.nuc_script.proofs.OneReading.{every_script_is_read, one_reading}
 use Rattle.nuc_script.specs.Grammar.{IsScript}
 use Rattle.nuc_script.specs.Text.{script_text}
-use Rattle.nuc_step.specs.declared.event.Event.{Event}
-use Rattle.nuc_step.specs.declared.event.Event.TheVariants as event
 use Rattle.nuc_step.specs.declared.log.LogEntry.{LogEntry}
 use Rattle.nuc_step.specs.declared.log.LogEntry.TheVariants as entry
-use Rattle.nuc_step.specs.declared.reply.Reply.{Reply}
-use Rattle.nuc_step.specs.declared.reply.Reply.TheVariants as reply
-use Rattle.nuc_step.specs.declared.reply.ScanReply.TheVariants as scan
-use Rattle.nuc_step.specs.declared.reply.PlanReply.TheVariants as plan
-use Rattle.nuc_step.specs.declared.reply.StartReply.TheVariants as start
-use Rattle.nuc_step.specs.declared.reply.TakeReply.TheVariants as take_reply
-use Rattle.nuc_step.specs.declared.reply.DoneReply.TheVariants as done
-use Rattle.nuc_step.specs.declared.reply.MarkReply.TheVariants as mark
 use Rattle.nuc_report.specs.declared.status.Status.TheVariants as status
 use Rattle.nuc_run.specs.Outcome.{EveryScriptIsRun, OneOutcome, RanAll}
 use Rattle.nuc_run.specs.Runs.{IsWholeLog, Leads}
-use Rattle.nuc_run.specs.Scan.{observed}
-use Rattle.nuc_run.specs.State.{State, Listing, fresh}
-use Rattle.nuc_run.specs.Step.{Says, after, before_listing, found}
+use Rattle.nuc_run.specs.State.{State, fresh}
 use Rattle.nuc_run.specs.Tasks.{Task, Follows, more, script_tasks}
-
-scanned_one : (w : State) (held : Option Listing) (j k : ℕ) → IsSomeAnd held (λ h. j ≡ found w (observed (before_listing w) h.items))
-    → IsSomeAnd held (λ h. k ≡ found w (observed (before_listing w) h.items)) → j ≡ k
-scanned_one w None j k a b = absurd a
-scanned_one w (Some h) j k a b = a ∙ sym b
-
--- an event has one reply
-says_one : (w : State) (e : Event) (r s : Reply) → Says w e r → Says w e s → r ≡ s
-says_one w (event.User c e) (reply.User x) (reply.User y) a b = ap reply.User (a ∙ sym b)
-says_one w (event.User c e) (reply.User x) _ a b = absurd b
-says_one w (event.User c e) _ s a b = absurd a
-says_one w (event.List c) (reply.Listed m x) (reply.Listed n y) a b = ap (λ n. reply.Listed n x) (a.0 ∙ sym b.0) ∙ ap (reply.Listed n) (a.1 ∙ sym b.1)
-says_one w (event.List c) (reply.Listed m x) _ a b = absurd b
-says_one w (event.List c) _ s a b = absurd a
-says_one w (event.Scan c) (reply.Scan (scan.Changed j)) (reply.Scan (scan.Changed k)) a b = ap (λ k. reply.Scan (scan.Changed k)) (scanned_one w w.client.held j k a b)
-says_one w (event.Scan c) (reply.Scan (scan.Changed j)) _ a b = absurd b
-says_one w (event.Scan c) _ s a b = absurd a
-says_one w (event.Pull c) (reply.Pulled m x) (reply.Pulled n y) a b = ap (λ n. reply.Pulled n x) (a.0 ∙ sym b.0) ∙ ap (reply.Pulled n) (a.1 ∙ sym b.1)
-says_one w (event.Pull c) (reply.Pulled m x) _ a b = absurd b
-says_one w (event.Pull c) _ s a b = absurd a
-says_one w (event.Plan c) (reply.Plan plan.Empty) (reply.Plan plan.Empty) a b = refl
-says_one w (event.Plan c) (reply.Plan plan.Empty) (reply.Plan (plan.Batch ops)) a b = absurd (b.2 (b.1 ∙ a.1))
-says_one w (event.Plan c) (reply.Plan (plan.Batch ops)) (reply.Plan plan.Empty) a b = absurd (a.2 (a.1 ∙ b.1))
-says_one w (event.Plan c) (reply.Plan (plan.Batch ops)) (reply.Plan (plan.Batch others)) a b = ap (λ ops. reply.Plan (plan.Batch ops)) (a.1 ∙ sym b.1)
-says_one w (event.Plan c) (reply.Plan plan.Empty) _ a b = absurd b
-says_one w (event.Plan c) (reply.Plan (plan.Batch ops)) _ a b = absurd b
-says_one w (event.Plan c) _ s a b = absurd a
-says_one w (event.Start c n) (reply.Started (start.Ok x)) (reply.Started (start.Ok y)) a b = ap (λ x. reply.Started (start.Ok x)) (sym a.0 ∙ b.0)
-says_one w (event.Start c n) (reply.Started (start.Ok x)) _ a b = absurd b
-says_one w (event.Start c n) _ s a b = absurd a
-says_one w (event.Take c n) (reply.Took (take_reply.Accepted x)) (reply.Took (take_reply.Accepted y)) a b = ap (λ x. reply.Took (take_reply.Accepted x)) (a.1 ∙ sym b.1)
-says_one w (event.Take c n) (reply.Took (take_reply.Accepted x)) _ a b = absurd b
-says_one w (event.Take c n) _ s a b = absurd a
-says_one w (event.Done c n) (reply.Done done.Applied) (reply.Done done.Applied) a b = refl
-says_one w (event.Done c n) (reply.Done done.Applied) _ a b = absurd b
-says_one w (event.Done c n) _ s a b = absurd a
-says_one w (event.Mark c) (reply.Marked mark.Quiet) (reply.Marked mark.Quiet) a b = refl
-says_one w (event.Mark c) (reply.Marked mark.Quiet) _ a b = absurd b
-says_one w (event.Mark c) _ s a b = absurd a
+use Rattle.nuc_run.proofs.OneStep.{step_one}
+use Rattle.nuc_run.proofs.RunLemmas.{first_step, led_by}
 
 -- the same tasks from the same state bring the same entries
 entries_one : (w v u : State) (ts : List Task) (es fs : List LogEntry) → Leads w es v → Leads w fs u → Follows ts es [] → Follows ts fs [] → es ≡ fs
@@ -76,11 +26,12 @@ entries_one w v u (t ∷ ts) (entry.Opened n k ∷ es) (f ∷ fs) a b p q = absu
 entries_one w v u (t ∷ ts) (entry.Stepped e r ∷ es) (entry.Opened n k ∷ fs) a b p q = absurd q
 entries_one w v u (t ∷ ts) (entry.Stepped e r ∷ es) (entry.Stepped f s ∷ fs) a b p q =
     let same_event : f ≡ e = q.0 ∙ sym p.0 in
-    let b' : Leads w (entry.Stepped e s ∷ fs) u = subst (λ f. Leads w (entry.Stepped f s ∷ fs) u) same_event b in
-    let same_reply : s ≡ r = says_one w e s r b'.0.1 a.0.1 in
-    let q' : Follows (more t r ++ ts) fs [] = subst (λ s. Follows (more t s ++ ts) fs []) same_reply q.1 in
-    let rest : es ≡ fs = entries_one (after w e) v u (more t r ++ ts) es fs a.1 b'.1 p.1 q' in
-    ap (λ es. entry.Stepped e r ∷ es) rest ∙ ap (λ s. entry.Stepped e s ∷ fs) (sym same_reply) ∙ ap (λ e. entry.Stepped e s ∷ fs) (sym same_event)
+    let (x, left, more_left) = first_step w v e r es a in
+    let (y, right, more_right) = first_step w u e s fs (subst (λ f. Leads w (entry.Stepped f s ∷ fs) u) same_event b) in
+    let (same_reply, same_state) = step_one w e r s x y left right in
+    let q' : Follows (more t r ++ ts) fs [] = subst (λ s. Follows (more t s ++ ts) fs []) (sym same_reply) q.1 in
+    let rest : es ≡ fs = entries_one x v u (more t r ++ ts) es fs more_left (led_by x y u fs same_state more_right) p.1 q' in
+    ap (λ es. entry.Stepped e r ∷ es) rest ∙ ap (λ s. entry.Stepped e s ∷ fs) same_reply ∙ ap (λ e. entry.Stepped e s ∷ fs) (sym same_event)
 
 whole_one : (cs : List Command) (x y : List LogEntry) → IsWholeLog cs x → IsWholeLog cs y → x ≡ y
 whole_one cs x y a b = a.opened

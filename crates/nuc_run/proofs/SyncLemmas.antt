@@ -1,18 +1,22 @@
 -- The parts of a sync, and of a script, put together.
-use Rattle.std.proofs.Common.{◌≡◌, ◌+◌, ◌<◌, ℕ, zero, suc, List, [], ◌∷◌, ◌++◌, length, drop, slice_get, slice_index_or, Some, refl, sym, ◌∙◌, ap, subst, inl, inr}
+use Rattle.std.specs.Prelude.{◌||◌}
+use Rattle.std.proofs.Common.{◌≡◌, ◌+◌, ◌<◌, ℕ, zero, suc, true, false, List, [], ◌∷◌, ◌++◌, append_assoc, append-nil, length, take, drop, slice_get, slice_index_or, Some, refl, sym, ◌∙◌, ap, subst, inl, inr}
 use Rattle.std.proofs.lemmas.Option.{slice_get_read}
-use Rattle.nuc_script.specs.Grammar.{ComeBehind, IsBuilt, IsScript}
+use Rattle.std.specs.List.{list_any}
+use Rattle.nuc_script.specs.Grammar.{ComeBehind, IsBuilt, IsNew, IsScript, is_web}
 use Rattle.nuc_script.specs.declared.command.Command.{Command}
 use Rattle.nuc_script.specs.declared.command.Command.TheVariants as command
 use Rattle.nuc_folder.specs.declared.user.UserEdit.{UserEdit}
 use Rattle.nuc_folder.specs.declared.user.UserEdit.TheVariants as edit
 use Rattle.nuc_hash.specs.declared.filling.Filling.TheVariants as filling
+use Rattle.nuc_server.specs.declared.web_edit.WebEdit.{WebEdit}
 use Rattle.nuc_step.specs.declared.event.Event.TheVariants as event
 use Rattle.nuc_step.specs.declared.log.LogEntry.{LogEntry}
+use Rattle.nuc_run.specs.Calm.{is_sync}
 use Rattle.nuc_run.specs.Runs.{Did, Began, Reaches, opening, IsWholeLog, IsEarlyLog}
 use Rattle.nuc_run.specs.State.{State, fresh}
 use Rattle.nuc_run.specs.Tasks.{Task, once, plans, pulls, script_tasks, tasks_of}
-use Rattle.nuc_run.proofs.ListLemmas.{drop_at}
+use Rattle.nuc_run.proofs.ListLemmas.{drop_at, take_at}
 use Rattle.nuc_run.proofs.BatchRun.{did_same}
 use Rattle.nuc_run.proofs.RunLemmas.{began_at, began_more, began_then, did_more, did_nothing, did_then, runs_nothing}
 
@@ -78,6 +82,16 @@ pub user_tasks : (c : Command) (client : ℕ) (e : UserEdit) → IsBuilt c → c
 user_tasks c client e built is =
     ap (λ k. once (event.User k e) ∷ []) (sym (user_client client e (subst IsBuilt is built))) ∙ sym (ap tasks_of is)
 
+pub web_tasks : (c : Command) (e : WebEdit) → c ≡ command.Web e → once (event.Web e) ∷ [] ≡ tasks_of c
+web_tasks c e is = sym (ap tasks_of is)
+
+pull_client : (client : ℕ) → IsBuilt (command.Pull client) → client ≡ 1
+pull_client client built = built
+
+pub pull_tasks : (c : Command) (client : ℕ) → IsBuilt c → c ≡ command.Pull client → once (event.Pull 1) ∷ [] ≡ tasks_of c
+pull_tasks c client built is =
+    ap (λ k. tasks_of (command.Pull k)) (sym (pull_client client (subst IsBuilt is built))) ∙ sym (ap tasks_of is)
+
 pub sync_is : (c : Command) (client : ℕ) → IsBuilt c → c ≡ command.Sync client → sync_tasks ≡ tasks_of c
 sync_is c client built is =
     ap (λ k. tasks_of (command.Sync k)) (sym (client_is client (subst IsBuilt is built))) ∙ sym (ap tasks_of is)
@@ -90,6 +104,35 @@ did_as {x} {y} {a} {b} ts us same d = subst (λ ts. Did x y a ts b []) same d
 
 pub began_as : {x y : List LogEntry} {a : State} (ts us : List Task) → ts ≡ us → Began x y a ts → Began x y a us
 began_as {x} {y} {a} ts us same d = subst (λ ts. Began x y a ts) same d
+
+-- a sync has no web edit before it
+new_at : (before cs : List Command) (i : ℕ) (c : Command) → ComeBehind before cs → slice_get cs i ≡ Some c → IsNew (before ++ take i cs) c
+new_at before [] i c all e = cc
+new_at before (d ∷ ds) zero c all e = subst (λ b. IsNew b c) (sym (append-nil before)) (subst (IsNew before) (let same : d ≡ c = cc in same) all.1.1)
+new_at before (d ∷ ds) (suc i) c all e = subst (λ b. IsNew b c) (append_assoc before (d ∷ []) (take i ds)) (new_at (before ++ d ∷ []) ds i c all.2 e)
+
+sync_new : (before : List Command) (c : Command) → IsNew before c → is_sync c ≡ true → list_any is_web before ≡ false
+sync_new before (command.Sync client) new sync = new
+sync_new before (command.User client e) new sync = cc
+sync_new before (command.Web e) new sync = cc
+sync_new before (command.Pull client) new sync = cc
+
+pub no_web_before : (cs : List Command) (i : ℕ) (c : Command) → IsScript cs → slice_get cs i ≡ Some c → is_sync c ≡ true → list_any is_web (take i cs) ≡ false
+no_web_before cs i c script at sync = sync_new (take i cs) c (new_at [] cs i c script at) sync
+
+no_web_append : (cs ds : List Command) → list_any is_web (cs ++ ds) ≡ false → (list_any is_web cs ≡ false) × (list_any is_web ds ≡ false)
+no_web_append [] ds none = (refl, none)
+no_web_append (c ∷ cs) ds none = elim (is_web c) as (λ w. (w || list_any is_web (cs ++ ds)) ≡ false → ((w || list_any is_web cs) ≡ false) × (list_any is_web ds ≡ false)) [
+  | true ↦ λ none. cc
+  | false ↦ λ none. no_web_append cs ds none
+] none
+
+-- what has no web edit with the next command has none before it, nor is this one
+pub no_web_next : (cs : List Command) (i : ℕ) (c : Command) → slice_get cs i ≡ Some c → list_any is_web (take (i + 1) cs) ≡ false
+    → (list_any is_web (take i cs) ≡ false) × (is_web c ≡ false)
+no_web_next cs i c at none =
+    let split = no_web_append (take i cs) (c ∷ []) (ap (list_any is_web) (sym (take_at cs i c at)) ∙ none) in
+    (split.0, elim (is_web c) as (λ w. (w || false) ≡ false → w ≡ false) [ true ↦ λ h. h | false ↦ λ _. refl ] split.1)
 
 module _ (cs : List Command) (i : ℕ) (c : Command) (at : slice_get cs i ≡ Some c) {x y : List LogEntry} {a b : State}
     (sofar : Did x y a (script_tasks cs) b (script_tasks (drop i cs))) where

@@ -19,7 +19,7 @@ use Rattle.nuc_server.specs.State.{ServerState}
 use Rattle.nuc_server.specs.WebEdits.{all_stored}
 use Rattle.nuc_run.specs.declared.client.Client.{Client}
 use Rattle.nuc_run.specs.declared.world.World.{World}
-use Rattle.nuc_run.proofs.GoodLemmas.{upload_keeps, upload_legal, upload_id, upload_fits, upload_remote, upload_synced}
+use Rattle.nuc_run.proofs.GoodLemmas.{numbered_more, upload_drawn, upload_keeps, upload_legal, upload_id, upload_fits, upload_remote, upload_synced}
 use Rattle.nuc_run.proofs.RunLemmas.{did_nothing, began_at}
 use Rattle.nuc_run.proofs.UploadLemmas.{has_started, is_taken, uploaded, start_entry, take_entry, done_entry, take_and_done, only_done, start_runs, taken_runs, upload_runs}
 
@@ -72,6 +72,7 @@ good_uploaded s good op up flights rest bytes = record {
       (put_keeps s.client.remote op.id.0 up.node good.step.remote_form (upload_legal s good op up s.client.remote up.node good.step.pulled refl) (upload_id s good op up) (upload_fits s good op up))
       (put_keeps s.client.synced op.id.0 up.node good.step.synced_form (upload_legal s good op up s.client.synced up.node refl refl) (upload_id s good op up) (upload_fits s good op up))
       refl refl refl;
+  identities = numbered_more s.ids.next_id op.id.0 s.server up.node (upload_drawn s good op up) good.identities;
 }
 
 -- the world in code before an upload, after its blocks were stored, after the server took it, and after it was done

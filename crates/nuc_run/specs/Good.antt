@@ -1,4 +1,4 @@
--- What holds between the steps of a script, where nothing but whole batches is in flight.
+-- What holds between the steps of a script, where nothing but whole batches is in flight and no web edit came.
 use Rattle.std.specs.Prelude.{◌≡◌, ◌≢◌, ◌⊎◌, ℕ, ◌<◌, ◌≤◌, List, [], ◌∷◌, ◌++◌, length, slice_get, ◌-◌, Option, None, Some, IsSome}
 use Rattle.std.specs.FinMap as tree
 use Rattle.nuc_base.specs.Kinds.{FitsKind}
@@ -25,6 +25,7 @@ use Rattle.nuc_step.specs.declared.reply.Reply.TheVariants as reply
 use Rattle.nuc_step.specs.declared.reply.StartReply.TheVariants as start
 use Rattle.nuc_run.specs.declared.client.Binding.{Binding}
 use Rattle.nuc_journal.specs.declared.entry.Entry.{Entry}
+use Rattle.nuc_server.specs.WebEdits.{IsNextId}
 use Rattle.nuc_run.specs.State.{State}
 use Rattle.nuc_run.specs.Scan.{key_of}
 use Rattle.nuc_journal.specs.Entries.{kind_of, revision_of, tree_of}
@@ -80,9 +81,11 @@ pub record InStep (server : List Entry) (remote local synced : Nodes) (cursor : 
   pub cursor_is : cursor ≡ length server
   pub within : AreKept synced local
 
+-- what holds where no web edit came
 pub record Good (s : State) : Type 0 where
   pub observed : IsObserved (listing s.folder) s.client.local s.client.keys s.edits s.ids
   pub step : InStep s.server s.client.remote s.client.local s.client.synced s.client.cursor
+  pub identities : IsNextId s.ids.next_id s.server
 
 -- the upload of a file that stands in Local alone, whatever its number
 pub record IsUpload (local synced : Nodes) (op : Op) : Type 0 where

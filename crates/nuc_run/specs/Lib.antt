@@ -5,6 +5,7 @@ pub mod Step
 pub mod Tasks
 pub mod Runs
 pub mod Good
+pub mod Calm
 pub mod World
 pub mod Outcome
 pub mod Sound

@@ -1,17 +1,18 @@
 -- A run: the steps of a log one after the other, and the logs that a script gives.
 use Rattle.std.specs.Prelude.{◌≡◌, false, List, [], ◌∷◌, ◌++◌, ◌⊎◌}
 use Rattle.nuc_script.specs.declared.command.Command.{Command}
+use Rattle.nuc_step.specs.declared.event.Event.TheVariants as event
 use Rattle.nuc_step.specs.declared.log.LogEntry.{LogEntry}
 use Rattle.nuc_step.specs.declared.log.LogEntry.TheVariants as entry
 use Rattle.nuc_run.specs.State.{State, fresh}
-use Rattle.nuc_run.specs.Step.{after, Answers}
+use Rattle.nuc_run.specs.Step.{after, Answers, IsWebStep}
 use Rattle.nuc_run.specs.Tasks.{Task, script_tasks, Follows}
 
--- the entries lead from one state to another: each reply is one that its event may be given at that point. An opening is no
--- step: it stands in front of these
+-- the entries lead from one state to another, step by step. An opening is no step: it stands in front of these
 abbrev pub Leads : State → List LogEntry → State → Type 0
 Leads w [] v = w ≡ v
 Leads w (entry.Opened clients kept ∷ es) v = ⊥
+Leads w (entry.Stepped (event.Web edit) r ∷ es) v = (t : State) × IsWebStep w edit r t × Leads t es v
 Leads w (entry.Stepped e r ∷ es) v = Answers w e r × Leads (after w e) es v
 
 -- the entries lead from one state to the other and are what the tasks bring, but for the tasks left

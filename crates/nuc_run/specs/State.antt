@@ -4,6 +4,7 @@ use Rattle.std.specs.FinMap as map
 use Rattle.nuc_base.specs.declared.node.Counters.{Counters}
 use Rattle.nuc_base.specs.Trees.{Nodes}
 use Rattle.nuc_blocks.specs.Blocks.{Blocks}
+use Rattle.nuc_edits.specs.declared.edit.Adoption.{Adoption}
 use Rattle.nuc_edits.specs.declared.edit.Edit.{Edit}
 use Rattle.nuc_class.specs.declared.op.Op.{Op}
 use Rattle.nuc_folder.specs.Folder.{FolderData}
@@ -42,6 +43,7 @@ pub record State : Type 0 where
   pub server : List Entry
   pub blocks : Blocks
   pub edits : List Edit
+  pub adoptions : List Adoption
   pub ids : Counters
   pub folder : FolderData
   pub client : ClientState
@@ -52,6 +54,7 @@ fresh = record {
   server = [];
   blocks = [];
   edits = [];
+  adoptions = [];
   ids = record { next_id = 1; next_ver = 1 };
   folder = record { files = []; next_key = 1 };
   client = record {

@@ -1,6 +1,7 @@
--- One step: what an event changes, and which reply it is given. `after` and `Answers` are the one meaning of a
--- log, and whatever is claimed of a run is claimed by them. There is one client yet, with the number 1. `after` has a
--- value for every event; where `Answers` allows no reply, as for an operation that nobody planned, no log gets there.
+-- One step: which reply an event is given, and what comes of it. Of a web edit `IsWebStep` tells both, and of every other
+-- event `Answers` and `after`. These are the one meaning of a log, and whatever is claimed of a run is claimed by them. There
+-- is one client yet, with the number 1. `after` has a value for every event; where `Answers` allows no reply, as for an
+-- operation that nobody planned, no log gets there.
 use Rattle.std.specs.Prelude.{◌≡◌, ◌≢◌, ℕ, ◌+◌, ◌-◌, ◌==◌, cond, List, [], ◌∷◌, ◌++◌, length, take, drop, map, find, Option, None, Some, IsSome, IsSomeAnd}
 use Rattle.nuc_base.specs.declared.node.Node.{Node}
 use Rattle.std.specs.FinMap as tree
@@ -13,7 +14,12 @@ use Rattle.nuc_folder.specs.Listing.{item_of, has_key}
 use Rattle.nuc_folder.specs.Write.{edited}
 use Rattle.nuc_folder.specs.declared.item.Item.{Item}
 use Rattle.nuc_hash.specs.Content.{blocks_of}
-use Rattle.nuc_server.specs.WebEdits.{all_stored}
+use Rattle.nuc_journal.specs.Journal.{IsJournal}
+use Rattle.nuc_server.specs.Web.{WebAnswers}
+use Rattle.nuc_server.specs.WebEdits.{IsNextId, WebState, all_stored}
+use Rattle.nuc_server.specs.declared.web_edit.WebEdit.{WebEdit}
+use Rattle.nuc_server.specs.declared.web_edit.WebReply.{WebReply}
+use Rattle.nuc_server.specs.declared.web_edit.WebReply.TheVariants as web_reply
 use Rattle.nuc_step.specs.declared.event.Event.{Event}
 use Rattle.nuc_step.specs.declared.event.Event.TheVariants as event
 use Rattle.nuc_step.specs.declared.reply.Reply.{Reply}
@@ -160,9 +166,30 @@ done_by w n (Some f) = done_at w n f.op.id.0 f.stage f.op.synced
 abbrev pub after_done : State → ℕ → State
 after_done w n = done_by w n (flight_of n w.client.flights)
 
--- WHAT AN EVENT CHANGES
+-- WEB EDITS read and change a part of the state
+abbrev pub web_of : State → WebState
+web_of w = record { entries = w.server; blocks = w.blocks; edits = record { edits = w.edits; adoptions = w.adoptions }; ids = w.ids }
+
+abbrev pub with_web : State → WebState → State
+with_web w t = record w { server = t.entries; blocks = t.blocks; edits = t.edits.edits; adoptions = t.edits.adoptions; ids = t.ids }
+
+-- the server, with a journal and an identity that is free for whoever is new, answers the edit; want of memory is no entry
+pub record EditsWeb (w : State) (edit : WebEdit) (answer : WebReply) (t : State) : Type 0 where
+  pub journal : IsJournal w.server
+  pub identities : IsNextId w.ids.next_id w.server
+  pub answers : WebAnswers (web_of w) edit answer (web_of t)
+  pub known : answer ≢ web_reply.Memory
+  pub others : t ≡ with_web w (web_of t)
+  pub journal_after : IsJournal t.server
+
+abbrev pub IsWebStep : State → WebEdit → Reply → State → Type 0
+IsWebStep w edit (reply.Web answer) t = EditsWeb w edit answer t
+IsWebStep w edit _ t = ⊥
+
+-- WHAT ANY OTHER EVENT CHANGES
 abbrev pub after : State → Event → State
 after w (event.User client edit) = record w { folder = (edited edit w.folder).1 }
+after w (event.Web edit) = w
 after w (event.List client) = after_list w
 after w (event.Scan client) = after_scan w w.client.held
 after w (event.Pull client) = after_pull w
@@ -175,6 +202,7 @@ after w (event.Mark client) = w
 -- WHICH REPLY IT IS GIVEN
 abbrev pub client_of : Event → ℕ
 client_of (event.User client edit) = client
+client_of (event.Web edit) = 1
 client_of (event.List client) = client
 client_of (event.Scan client) = client
 client_of (event.Pull client) = client

@@ -20,6 +20,8 @@ pub data Task : Type 0 where
 
 abbrev pub tasks_of : Command → List Task
 tasks_of (command.User client edit) = once (event.User client edit) ∷ []
+tasks_of (command.Web edit) = once (event.Web edit) ∷ []
+tasks_of (command.Pull client) = once (event.Pull client) ∷ []
 tasks_of (command.Sync client) = once (event.List client) ∷ once (event.Scan client) ∷ pulls client ∷ plans client ∷ once (event.Mark client) ∷ []
 
 abbrev pub script_tasks : List Command → List Task

@@ -9,6 +9,7 @@ state_of w held flights = record {
   server = w.server.now;
   blocks = w.store.now;
   edits = w.edits.now.edits;
+  adoptions = w.edits.now.adoptions;
   ids = w.ids;
   folder = w.folder;
   client = record {

@@ -3,10 +3,12 @@
 
 mod client;
 mod plan;
+mod pull;
 mod run;
 mod scan;
 #[cfg(test)]
 mod tests;
+mod web;
 mod world;
 
 pub use run::{has_one_outcome, run_script, runs_every_script};

@@ -1,6 +1,7 @@
-ghost use Rattle.std.specs.Prelude.{◌≡◌, ◌≢◌, ◌⊎◌, [], IfOk, MatchBool, OnErr, OnOk};
+ghost use Rattle.std.specs.Prelude.{◌≡◌, ◌≢◌, ◌⊎◌, [], true, false, IfOk, MatchBool, OnErr, OnOk};
 ghost use Rattle.nuc_io.specs.Causes.{HasCause};
 ghost use Rattle.nuc_report.specs.Output.{output_of, refusal_text};
+ghost use Rattle.nuc_run.specs.Calm.{Calm, is_sync};
 ghost use Rattle.nuc_run.specs.Good.{Good};
 ghost use Rattle.nuc_run.specs.Outcome.{AreRun, EndsAs, EveryScriptIsRun, JudgesWords, OneOutcome, RunsScript, WritesOutput, WritesRun, seen_in};
 ghost use Rattle.nuc_run.specs.Runs.{Began, Did, IsEarlyLog, IsWholeLog, Reaches};
@@ -8,7 +9,7 @@ ghost use Rattle.nuc_run.specs.Sound.{IsExactThroughout, IsSoundThroughout};
 ghost use Rattle.nuc_run.specs.State.{fresh};
 ghost use Rattle.nuc_run.specs.Tasks.{tasks_of};
 ghost use Rattle.nuc_run.specs.World.{at_rest};
-ghost use Rattle.nuc_script.specs.Grammar.{IsBuilt, IsScript};
+ghost use Rattle.nuc_script.specs.Grammar.{IsBuilt, IsScript, is_web};
 ghost use Rattle.nuc_script.specs.Reading.{TookLines};
 ghost use Rattle.std.specs.String.{string_bytes};
 
@@ -134,7 +135,6 @@ fn run_commands(
     commands: &[Command],
 ) -> Result<(), AllocError>
     requires script { IsScript commands.now }
-    requires good { Good (at_rest world.old) }
     requires fresh { at_rest world.old ≡ fresh }
     requires log { log.old.entries ≡ [] }
     ensures whole { OnOk result (IsWholeLog commands.now log.new.entries) }
@@ -158,13 +158,17 @@ fn run_command(
     command: &Command,
 ) -> Result<(), AllocError>
     requires built { IsBuilt command.now }
-    requires good { Good (at_rest world.old) }
-    ensures good { OnOk result (Good (at_rest world.new)) }
+    requires calm { Calm (at_rest world.old) }
+    requires good { is_sync command.now ≡ true → Good (at_rest world.old) }
+    ensures calm { OnOk result (Calm (at_rest world.new)) }
+    ensures good { OnOk result (is_web command.now ≡ false → Good (at_rest world.old) → Good (at_rest world.new)) }
     ensures step { OnOk result (Did log.old.entries log.new.entries (at_rest world.old) (tasks_of command.now) (at_rest world.new) []) }
     ensures err { OnErr result (Began log.old.entries log.new.entries (at_rest world.old) (tasks_of command.now)) }
 {
     match command {
         Command::User { edit, .. } => world.user(alloc, log, edit),
+        Command::Web(edit) => world.web(alloc, log, edit),
+        Command::Pull { .. } => world.pull_page(alloc, log),
         Command::Sync { .. } => world.sync(alloc, log),
     }
 }

@@ -1,4 +1,4 @@
-ghost use Rattle.std.specs.Prelude.{◌≡◌, ◌<◌, false, IfOk, OnOk};
+ghost use Rattle.std.specs.Prelude.{◌≡◌, ◌<◌, ◌≤◌, false, IfOk, OnOk};
 ghost use Rattle.std.specs.List.{All};
 ghost use Rattle.nuc_base.specs.Names.{IsName};
 ghost use Rattle.nuc_base.specs.Legal.{LegalPut};
@@ -32,6 +32,8 @@ pub fn observe(
     ensures ok { OnOk result (observed (record { local = local.old.nodes; keys = keys.old; edits = edits.old.now.edits; ids = ids.old }) items.now ≡ record { local = local.new.nodes; keys = keys.new; edits = edits.new.now.edits; ids = ids.new }) }
     ensures fits { OnOk result (IsObserved items.now local.new.nodes keys.new edits.new.now.edits ids.new) }
     ensures kept { OnOk result (AreKept local.old.nodes local.new.nodes) }
+    ensures counted { OnOk result (ids.old.next_id ≤ ids.new.next_id) }
+    ensures adoptions { OnOk result (edits.new.now.adoptions ≡ edits.old.now.adoptions) }
 {
     for item in items {
         observe_item(alloc, item, local, keys, edits, ids)?;
@@ -54,6 +56,8 @@ fn observe_item(
     requires legal { is_known keys.old item.now.key.0 ≡ false → LegalPut local.old.nodes ids.old.next_id (new_file item.now.name ids.old.next_ver) }
     ensures ok { OnOk result (record { local = local.new.nodes; keys = keys.new; edits = edits.new.now.edits; ids = ids.new } ≡ with_item (record { local = local.old.nodes; keys = keys.old; edits = edits.old.now.edits; ids = ids.old }) item.now) }
     ensures versions { OnOk result (IsNext ids.new.next_ver edits.new.now.edits) }
+    ensures counted { OnOk result (ids.old.next_id ≤ ids.new.next_id) }
+    ensures adoptions { OnOk result (edits.new.now.adoptions ≡ edits.old.now.adoptions) }
 {
     if is_known(keys.as_slice(), item.key) {
         return Ok(());
@@ -81,6 +85,8 @@ fn add_file(
     requires legal { LegalPut local.old.nodes ids.old.next_id (new_file item.now.name ids.old.next_ver) }
     ensures ok { OnOk result (record { local = local.new.nodes; keys = keys.new; edits = edits.new.now.edits; ids = ids.new } ≡ with_new_file (record { local = local.old.nodes; keys = keys.old; edits = edits.old.now.edits; ids = ids.old }) item.now content.now) }
     ensures versions { OnOk result (IsNext ids.new.next_ver edits.new.now.edits) }
+    ensures counted { OnOk result (ids.old.next_id ≤ ids.new.next_id) }
+    ensures adoptions { OnOk result (edits.new.now.adoptions ≡ edits.old.now.adoptions) }
 {
     let name = name_of(alloc, item)?;
     let id = NodeId(ids.next_id);

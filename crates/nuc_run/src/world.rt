@@ -7,6 +7,7 @@ ghost use Rattle.nuc_base.specs.Names.{IsName};
 ghost use Rattle.nuc_base.specs.Trees.{WellFormed};
 ghost use Rattle.nuc_blocks.specs.Blocks.{first_missing};
 ghost use Rattle.nuc_hash.specs.Content.{blocks_of, content_of};
+ghost use Rattle.nuc_run.specs.Calm.{Calm};
 ghost use Rattle.nuc_run.specs.Good.{AllUploads, AreApart, Good, HasRead, HasThem, IsHere, IsNewCommit, IsPlanned, IsPut, IsUpload, bytes_in, last_read, read_of};
 ghost use Rattle.nuc_run.specs.Plan.{batch};
 ghost use Rattle.nuc_run.specs.Runs.{Began, Did};
@@ -75,8 +76,8 @@ impl World {
 
     /// The user edits the folder.
     pub fn user(&mut self, alloc: Global, log: &mut Log, edit: &UserEdit) -> Result<(), AllocError>
-        requires { Good (at_rest self.old) }
-        ensures good { OnOk result (Good (at_rest self.new)) }
+        ensures calm { OnOk result (Calm (at_rest self.old) → Calm (at_rest self.new)) }
+        ensures good { OnOk result (Good (at_rest self.old) → Good (at_rest self.new)) }
         ensures step { OnOk result (Did log.old.entries log.new.entries (at_rest self.old) (once (event.User CLIENT edit.now) ∷ []) (at_rest self.new) []) }
         ensures err { OnErr result (log.new.entries ≡ log.old.entries) }
     {
@@ -357,7 +358,7 @@ impl World {
 }
 
 /// Enters an event and its reply at the end of the log.
-fn record(log: &mut Log, event: Event, reply: Reply) -> Result<(), AllocError>
+pub(crate) fn record(log: &mut Log, event: Event, reply: Reply) -> Result<(), AllocError>
     ensures ok { OnOk result (log.new.entries ≡ log.old.entries ++ entry.Stepped event reply ∷ []) }
     ensures err { OnErr result (log.new.entries ≡ log.old.entries) }
 {
@@ -390,6 +391,7 @@ fn bytes_in(reply: &Reply) -> &[u8]
         Reply::Started(StartReply::Ok { bytes: Some(bytes) }) => bytes.as_slice(),
         Reply::Started(StartReply::Ok { bytes: None })
         | Reply::User(_)
+        | Reply::Web(_)
         | Reply::Listed { .. }
         | Reply::Scan(_)
         | Reply::Pulled { .. }

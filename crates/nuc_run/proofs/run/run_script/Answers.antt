@@ -1,4 +1,4 @@
-use Rattle.std.proofs.Common.{ap}
+use Rattle.std.proofs.Common.{ap, rules}
 use Rattle.nuc_report.specs.Output.{output_of}
 use Rattle.nuc_run.specs.Outcome.{seen_in}
 use Rattle.nuc_run.specs.State.{fresh}
@@ -7,10 +7,10 @@ use Rattle.nuc_run.proofs.KeptLogs.{exact_throughout, sound_throughout}
 use Rattle.nuc_run.proofs.run.run_script.Goals as goal
 
 pub returns-in-Commands-clause-sound : goal.returns-in-Commands-clause-sound
-returns-in-Commands-clause-sound g c = sound_throughout _
+returns-in-Commands-clause-sound g c = sound_throughout _ _ _ (search rules) c.run.ensures.before c.run.ensures.whole c.run.ensures.early
 
 pub returns-in-Commands-clause-plans : goal.returns-in-Commands-clause-plans
-returns-in-Commands-clause-plans g c = exact_throughout _ _ _ c.run.ensures.before c.run.ensures.whole c.run.ensures.early
+returns-in-Commands-clause-plans g c = exact_throughout _ _ _ (search rules) c.run.ensures.before c.run.ensures.whole c.run.ensures.early
 
 pub returns-then-not-are_run-clause-output : goal.returns-then-not-are_run-clause-output
 returns-then-not-are_run-clause-output g c =

@@ -1,4 +1,4 @@
-use Rattle.std.proofs.Common.{◌≡◌, drop}
+use Rattle.std.proofs.Common.{◌≡◌, ◌≤◌, drop}
 use Rattle.nuc_run.specs.Good.{AreKept, IsObserved}
 use Rattle.nuc_run.specs.Scan.{observed}
 use Rattle.nuc_run.proofs.scan.observe.Given as goal
@@ -9,4 +9,6 @@ invariant-loop-item l = record {
       ≡ observed (record { local = l.local.nodes; keys = l.keys; edits = l.edits.now.edits; ids = l.ids }) (drop l.item-index l.items);
   fits : IsObserved l.items l.local.nodes l.keys l.edits.now.edits l.ids;
   kept : AreKept l.initial.local.nodes l.local.nodes;
+  adoptions : l.edits.now.adoptions ≡ l.initial.edits.now.adoptions;
+  counted : l.initial.ids.next_id ≤ l.ids.next_id;
 }

@@ -8,8 +8,8 @@ use Rattle.nuc_run.proofs.world.World.scan.Goals.{then-found-gt0+in_ok-self, els
 
 pub returns-clause-good : goal.returns-clause-good
 returns-clause-good c =
-    let fits = good_scanned _ _ _ _ _ _ c.requires.good (c.as_slice.ensures ∙ c.requires.items) c.in_ok-observe.ensures.fits c.in_ok-observe.ensures.kept in
+    let fits = good_scanned _ _ _ _ _ _ c.requires.good (c.as_slice.ensures ∙ c.requires.items) c.in_ok-observe.ensures.fits c.in_ok-observe.ensures.kept c.in_ok-observe.ensures.counted in
     on_ok c.record.result (elim c.if-found-gt0.branch [
-      | then-found-gt0+in_ok-self w ↦ subst (λ (self : World). Good (at_rest self)) (sym w.self-is) (record { observed = fits.observed; step = fits.step })
-      | else-found-gt0 w ↦ subst (λ (self : World). Good (at_rest self)) (sym w.self-is) (record { observed = fits.observed; step = fits.step })
+      | then-found-gt0+in_ok-self w ↦ subst (λ (self : World). Good (at_rest self)) (sym w.self-is) (record { observed = fits.observed; step = fits.step; identities = fits.identities })
+      | else-found-gt0 w ↦ subst (λ (self : World). Good (at_rest self)) (sym w.self-is) (record { observed = fits.observed; step = fits.step; identities = fits.identities })
     ])
