@@ -41,7 +41,7 @@ pub fn cut_legal<T: TreeLike>(tree: &mut T, id: NodeId) -> Node
     ensures node { map.get (T.nodes tree.old) id.0 ≡ Some result }
     ensures cut { T.nodes tree.new ≡ map.remove (T.nodes tree.old) id.0 }
     ensures form { WellFormed (T.nodes tree.old) → WellFormed (T.nodes tree.new) }
-    ensures spare { T.spare tree.old ≤ T.spare tree.new }
+    ensures freed { T.spare tree.old < T.spare tree.new }
 {
     match tree.cut(id) {
         Ok(node) => node,

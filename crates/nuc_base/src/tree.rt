@@ -72,14 +72,15 @@ pub trait TreeLike {
         ensures spare { OnOk result (spare self.old ≤ spare self.new + room_for (map.get (nodes self.old) id.0)) }
         ensures spare_err { OnErr result (spare self.old ≤ spare self.new) };
 
-    /// Takes a node without children out of the tree, and hands it over.
+    /// Takes a node without children out of the tree, and hands it over. Its room is spare then.
     fn cut(&mut self, id: NodeId) -> Result<Node, CutFault>
         ensures ok { OnOk result (LegalCut (nodes self.old) id.0 × (nodes self.new ≡ map.remove (nodes self.old) id.0)) }
         ensures node { IfOk result (λ n. map.get (nodes self.old) id.0 ≡ Some n) }
         ensures tree { WellFormed (nodes self.old) → WellFormed (nodes self.new) }
         ensures fault { IfErr result (λ e. CutFaulty (nodes self.old) id.0 e) }
         ensures err { OnErr result (nodes self.new ≡ nodes self.old) }
-        ensures spare { spare self.old ≤ spare self.new };
+        ensures spare { spare self.old ≤ spare self.new }
+        ensures freed { OnOk result (spare self.old < spare self.new) };
 
     /// Whether `a` is `b` or stands below it.
     fn under(&self, a: NodeId, b: NodeId) -> bool

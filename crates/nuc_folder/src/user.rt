@@ -1,8 +1,7 @@
 ghost use Rattle.std.specs.Prelude.{◌≡◌, IfOk};
 
-use nuc_base::{Name, Path};
+use nuc_base::Path;
 use nuc_hash::Filling;
-use sqlite_items::Items;
 use std::alloc::{AllocError, Global};
 
 /// What a user does in a folder.
@@ -18,22 +17,11 @@ impl UserEdit {
     {
         match self {
             UserEdit::Write(path, filling) => {
-                let names = copy_names(alloc, path.names.as_slice())?;
-                let filling = filling.copy(alloc)?;
-                Ok(UserEdit::Write(Path { names }, filling))
+                let path = path.copy(alloc)?;
+                Ok(UserEdit::Write(path, filling.copy(alloc)?))
             }
         }
     }
-}
-
-fn copy_names(alloc: Global, names: &[Name]) -> Result<Items<Name>, AllocError>
-    ensures { IfOk result (λ copies. copies ≡ names.now) }
-{
-    let mut copies = Items::new(alloc);
-    for name in names {
-        copies.push(name.copy(alloc)?)?;
-    }
-    Ok(copies)
 }
 
 /// How a folder answers a user's edit.

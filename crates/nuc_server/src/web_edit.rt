@@ -1,8 +1,7 @@
 ghost use Rattle.std.specs.Prelude.{◌≡◌, IfOk};
 
-use nuc_base::{Name, NodeId, Path};
+use nuc_base::{NodeId, Path};
 use nuc_hash::Filling;
-use sqlite_items::Items;
 use std::alloc::{AllocError, Global};
 
 /// What is edited on the web. It is judged by the server's last tree.
@@ -49,27 +48,17 @@ impl WebEdit {
         ensures { IfOk result (λ edit. edit ≡ self.now) }
     {
         match self {
-            WebEdit::Mkdir(path) => Ok(WebEdit::Mkdir(copy_path(alloc, path)?)),
+            WebEdit::Mkdir(path) => Ok(WebEdit::Mkdir(path.copy(alloc)?)),
             WebEdit::Write(path, filling) => {
-                let path = copy_path(alloc, path)?;
+                let path = path.copy(alloc)?;
                 Ok(WebEdit::Write(path, filling.copy(alloc)?))
             }
             WebEdit::Move(from, to) => {
-                let from = copy_path(alloc, from)?;
-                Ok(WebEdit::Move(from, copy_path(alloc, to)?))
+                let from = from.copy(alloc)?;
+                Ok(WebEdit::Move(from, to.copy(alloc)?))
             }
-            WebEdit::Remove(path) => Ok(WebEdit::Remove(copy_path(alloc, path)?)),
-            WebEdit::Bit(path, on) => Ok(WebEdit::Bit(copy_path(alloc, path)?, *on)),
+            WebEdit::Remove(path) => Ok(WebEdit::Remove(path.copy(alloc)?)),
+            WebEdit::Bit(path, on) => Ok(WebEdit::Bit(path.copy(alloc)?, *on)),
         }
     }
-}
-
-fn copy_path(alloc: Global, path: &Path) -> Result<Path, AllocError>
-    ensures { IfOk result (λ copy. copy ≡ path.now) }
-{
-    let mut names: Items<Name> = Items::new(alloc);
-    for name in path.names.as_slice() {
-        names.push(name.copy(alloc)?)?;
-    }
-    Ok(Path { names })
 }

@@ -1,5 +1,5 @@
 use Rattle.std.proofs.Common.{◌≡◌, take}
-use Rattle.nuc_server.proofs.web_edit.copy_path.Given as goal
+use Rattle.nuc_base.proofs.path.Path.copy.Given as goal
 
 abbrev pub invariant-loop-name : goal.invariant-loop-name
 invariant-loop-name l = l.names ≡ take l.name-index l.name-items
