@@ -92,6 +92,40 @@ summary 11 1 0 0 0
 status 0
 ";
 
+const WEB_SCRIPT: &str = "web write /f =x
+web write /f =x
+web write /f =y
+web mkdir /f/g
+web mkdir /d
+web move /d /d/e
+web remove /d
+pull 1
+";
+
+const WEB_EDITS: &str = "open 1 fresh
+web write /f =x accepted 1
+web write /f =x same
+web write /f =y accepted 2
+web mkdir /f/g refused noparent
+web mkdir /d accepted 3
+web move /d /d/e refused cycle
+web remove /d accepted 4
+pull 1 4 4
+report
+server 4
+node 1 0 file 2 f
+client 1 4 0
+remote
+node 1 0 file 2 f
+local
+synced
+folder
+edit 1 1 0 put 1 0a325ca303eb3014c43ae004970f343634db176fa1697bcc8c9efac94626488d
+edit 2 1 1 put 1 f17821c6417e73b24157c2ec80e527b32a9e3d7036940cf28ba5307dba67e28c
+summary 9 0 0 0 0
+status 0
+";
+
 fn run_text(alloc: Global, script: &str, output: &mut MemSink) -> Result<Ended, AllocError> {
     let words = [RcStr::from_str(alloc, "run")?];
     let mut input = MemSource::new(alloc, script.as_bytes().to_vec(alloc)?);
@@ -136,6 +170,13 @@ fn a_script_gives_its_output(rt: HostRuntime) -> Result<(), Fail> {
         ),
         ("write 1 /a/b =1\n", fault(1), 0, "status 2 1 notbuilt\n"),
         ("sync 2\n", fault(1), 0, "status 2 1 notbuilt\n"),
+        (WEB_SCRIPT, Status::Ok, 9, WEB_EDITS),
+        (
+            "web mkdir /d\nsync 1\n",
+            fault(2),
+            0,
+            "status 2 2 notbuilt\n",
+        ),
     ];
     for (script, status, entries, printed) in table {
         let mut output = MemSink::new(alloc);
