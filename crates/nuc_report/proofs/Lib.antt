@@ -1,3 +1,2 @@
-mod Web
 mod Lines
 mod Walk

@@ -5,6 +5,8 @@ use Rattle.nuc_edits.specs.declared.edit.Edit.{Edit}
 use Rattle.nuc_edits.specs.declared.edit.EditKind.{EditKind}
 use Rattle.nuc_edits.specs.declared.edit.EditKind.TheVariants.{Put, Deleted}
 use Rattle.nuc_folder.specs.declared.item.Item.{Item}
+use Rattle.nuc_server.specs.declared.web_edit.WebReply.{WebReply}
+use Rattle.nuc_server.specs.declared.web_edit.WebReply.TheVariants as web
 use Rattle.nuc_step.specs.declared.event.Event.{Event}
 use Rattle.nuc_step.specs.declared.event.Event.TheVariants as event
 use Rattle.nuc_step.specs.declared.reply.Reply.{Reply}
@@ -17,9 +19,9 @@ use Rattle.nuc_step.specs.declared.reply.DoneReply.TheVariants as done
 use Rattle.nuc_step.specs.declared.reply.MarkReply.TheVariants as mark
 use Rattle.nuc_step.specs.declared.log.LogEntry.TheVariants.{Stepped}
 use Rattle.nuc_report.specs.Line.{joined, line, escaped}
+use Rattle.nuc_report.specs.Web.{web_reply_words}
 use Rattle.nuc_report.specs.Entry.{content_words, item_line, event_words, reply_words, reply_lines, entry_text}
 use Rattle.nuc_report.specs.Report.{change_words, edit_line}
-use Rattle.nuc_report.proofs.Web.{web_reply_has_words}
 
 line-joined : (words : List (List ℕ)) → words ≢ [] → line words ≡ joined words ++ 10 ∷ []
 line-joined [] some = absurd (some refl)
@@ -46,6 +48,17 @@ event_has_words (event.Start client number) = λ e. cc
 event_has_words (event.Take client number) = λ e. cc
 event_has_words (event.Done client number) = λ e. cc
 event_has_words (event.Mark client) = λ e. cc
+
+web_reply_has_words : (reply : WebReply) → web_reply_words reply ≢ []
+web_reply_has_words (web.Accepted revision) = λ e. cc
+web_reply_has_words web.Same = λ e. cc
+web_reply_has_words web.NoSuch = λ e. cc
+web_reply_has_words web.NoParent = λ e. cc
+web_reply_has_words (web.Taken id) = λ e. cc
+web_reply_has_words web.Cycle = λ e. cc
+web_reply_has_words web.NotEmpty = λ e. cc
+web_reply_has_words web.KindChanged = λ e. cc
+web_reply_has_words web.Memory = λ e. cc
 
 reply_has_words : (reply : Reply) → reply_words reply ≢ []
 reply_has_words (reply.User answer) = λ e. cc
