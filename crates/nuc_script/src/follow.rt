@@ -24,7 +24,7 @@ fn is_new(before: &[Command], next: &Command) -> bool
         Command::User { edit, .. } => !is_written(before, path_of(edit)),
         Command::Web(_) => true,
         Command::Pull { .. } => true,
-        Command::Sync { .. } => !before.iter().any(is_web),
+        Command::Sync { .. } => !has_web(before),
     }
 }
 
@@ -33,6 +33,12 @@ fn is_written(before: &[Command], path: &Path) -> bool
     ensures { result ≡ list_any (writes path.now.names) before.now }
 {
     before.iter().any(|command| writes(command, path))
+}
+
+fn has_web(before: &[Command]) -> bool
+    ensures { result ≡ list_any is_web before.now }
+{
+    before.iter().any(is_web)
 }
 
 fn is_web(command: &Command) -> bool
