@@ -15,7 +15,7 @@ use Rattle.nuc_folder.specs.declared.user.UserEdit.TheVariants as edit
 use Rattle.nuc_server.specs.declared.web_edit.WebEdit.{WebEdit}
 use Rattle.nuc_script.specs.Text.{written_text, web_text, command_line}
 use Rattle.nuc_script.specs.Grammar.{IsPlain, IsPlainPath, IsWebBuilt, IsBuilt, IsCommand}
-use Rattle.nuc_script.specs.Parts.{WrittenMeans, UserMeans, WebMeans}
+use Rattle.nuc_script.specs.Parts.{WrittenMeans, UserMeans}
 use Rattle.nuc_script.specs.Steps.{Means}
 use Rattle.nuc_script.specs.declared.command.Command.{Command}
 use Rattle.nuc_script.specs.declared.command.Command.TheVariants as command
