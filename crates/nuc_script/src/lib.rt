@@ -4,10 +4,10 @@
 mod command;
 mod follow;
 mod line;
+mod path;
 mod plain;
 mod read;
 mod script_read;
-mod way;
 mod web;
 mod word;
 mod written;

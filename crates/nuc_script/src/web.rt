@@ -2,7 +2,7 @@ ghost use Rattle.std.specs.Prelude.{◌≡◌, ◌≢◌, Bool, ◌++◌, codes,
 ghost use Rattle.nuc_script.specs.Parts.{WebMeans};
 ghost use Rattle.nuc_script.specs.Text.{switch_text};
 
-use crate::way::parse_path;
+use crate::path::parse_path;
 use crate::word::{behind, first_word, is_text};
 use crate::written::parse_written;
 use nuc_hash::Filling;

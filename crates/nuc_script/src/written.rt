@@ -2,8 +2,8 @@ ghost use Rattle.std.specs.Prelude.{◌≡◌, ◌≢◌, List, ℕ, ◌++◌, c
 ghost use Rattle.nuc_script.specs.Grammar.{IsPlain};
 ghost use Rattle.nuc_script.specs.Parts.{WrittenMeans};
 
+use crate::path::parse_path;
 use crate::plain::is_plain;
-use crate::way::parse_path;
 use crate::word::{behind, first_word};
 use nuc_base::Path;
 use sqlite_items::Items;

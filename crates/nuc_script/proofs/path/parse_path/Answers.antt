@@ -1,8 +1,8 @@
 use Rattle.std.proofs.Common.{◌≡◌, [], ◌∷◌, ◌++◌, sym, ap, subst, ◌∙◌, inl, inr, arith}
 use Rattle.std.proofs.lemmas.Grind.{common_steps}
 use Rattle.nuc_script.proofs.Paths.{IsCutTo, IsPiece, cut_to_more, no_name_here, no_path_here}
-use Rattle.nuc_script.proofs.way.parse_path.Goals as goal
-use Rattle.nuc_script.proofs.way.parse_path.Goals.{then-is_empty-via-then-is_empty, then-is_empty-via-else-is_empty+then-not-is_empty}
+use Rattle.nuc_script.proofs.path.parse_path.Goals as goal
+use Rattle.nuc_script.proofs.path.parse_path.Goals.{then-is_empty-via-then-is_empty, then-is_empty-via-else-is_empty+then-not-is_empty}
 
 pub returns-in_default-2 : goal.returns-in_default-2
 returns-in_default-2 c =
