@@ -64,13 +64,14 @@ is_same_path (a ∷ next ∷ more) (b ∷ names) = false
 abbrev pub path_of : UserEdit → List (List ℕ)
 path_of (edit.Write path filling) = path.names
 
--- the command writes the file at this path
+-- by this command the user writes the file at this path
 abbrev pub writes : List (List ℕ) → Command → Bool
 writes names (command.User client edit) = is_same_path (path_of edit) names
 writes names (command.Web edit) = false
 writes names (command.Pull client) = false
 writes names (command.Sync client) = false
 
+-- the command edits the server on the web
 abbrev pub is_web : Command → Bool
 is_web (command.User client edit) = false
 is_web (command.Web edit) = true
