@@ -1,13 +1,12 @@
 -- From a whole line to the next command.
-use Rattle.std.proofs.Common.{◌≡◌, ◌≢◌, ℕ, ◌+◌, ◌≤◌, ◌<◌, Bool, true, false, List, [], ◌∷◌, ◌++◌, length, get_or, Option, Some, None, refl, sym, ap, subst, ◌∙◌, arith, length-append}
+use Rattle.std.proofs.Common.{◌≡◌, ◌≢◌, ℕ, ◌+◌, ◌≤◌, ◌<◌, Bool, true, false, List, [], ◌∷◌, ◌++◌, length, get_or, Option, refl, sym, ap, subst, ◌∙◌, arith, length-append}
 use Rattle.std.proofs.lemmas.List.{append_cancel_right, get_or_at}
-use Rattle.nuc_base.specs.declared.fault.LineFault.TheVariants.{NotBuilt}
 use Rattle.nuc_io.specs.Reading.{Took}
-use Rattle.nuc_io.specs.Line.{LineData, IsOneLine, IsWhole, line_text, TookPart}
+use Rattle.nuc_io.specs.Line.{LineData, IsOneLine, IsWhole, line_text}
 use Rattle.nuc_script.specs.Text.{command_line, command_text}
 use Rattle.nuc_script.specs.Grammar.{IsCommand, MayFollow}
-use Rattle.nuc_script.specs.Reading.{IsCutLine, by_lf, by_end, cut_off}
-use Rattle.nuc_script.specs.Steps.{Means, Says, TookLine, ReadsNext, JudgesLine}
+use Rattle.nuc_script.specs.Reading.{IsCutLine, by_lf, by_end}
+use Rattle.nuc_script.specs.Steps.{ReadsNext, JudgesLine}
 use Rattle.nuc_script.specs.declared.command.Command.{Command}
 use Rattle.nuc_script.specs.declared.read.Next.{Next}
 use Rattle.nuc_script.specs.declared.read.Next.TheVariants as next
@@ -19,14 +18,6 @@ no_lf bytes one_line c same =
     let line = command_line c in
     let within : length line < length bytes = omega (arith, ap length same, length-append line (10 ∷ [])) in
     one_line (length line) 0 within (ap (λ l. get_or l (length line) 0) same ∙ get_or_at line 10 [] 0 (length line) refl)
-
-pub too_long : (bytes : List ℕ) → 4096 < length bytes → (c : Command) → IsCommand c → bytes ++ 10 ∷ [] ≢ command_text c
-too_long bytes long c is same =
-    omega (arith, is.short, ap length (append_cancel_right bytes (command_line c) (10 ∷ []) same))
-
-pub says_of_means : (bytes : List ℕ) (found : Option Command) → Means bytes found → Says (bytes ++ 10 ∷ []) found
-says_of_means bytes None none = λ c is same. none c is (append_cancel_right bytes (command_line c) (10 ∷ []) same)
-says_of_means bytes (Some c) (is, same) = (is, ap (λ l. l ++ 10 ∷ []) same)
 
 -- a command that may not come stands in nobody's way
 pub not_here : (before : List Command) (c : Command) (text : List ℕ) → IsCommand c → text ≡ command_text c → ¬ (MayFollow before c)
@@ -57,11 +48,3 @@ judged before left line rest (next.Fault kind) whole took (not_built, none) =
 judged before left line rest next.ReadFault whole took never = absurd never
 judged before left line rest next.Memory whole took _ =
     (line_text line, omega (arith, line_len line line.ended refl, whole.short), took)
-
-pub part_of_line : (left rest : Option (List ℕ)) → TookPart left 4097 rest → TookLine left rest
-part_of_line left rest (bytes, one_line, short, took) = (bytes, omega (arith, short), took)
-
-pub long_line : (before : List Command) (left rest : Option (List ℕ)) → ((bytes : List ℕ) × IsOneLine bytes × (length bytes ≡ 4098) × Took left bytes rest)
-    → ReadsNext before left (next.Fault NotBuilt) rest
-long_line before left rest (bytes, one_line, long, took) =
-    (refl, (bytes, cut_off one_line long, took, λ c is may. no_lf bytes one_line c))

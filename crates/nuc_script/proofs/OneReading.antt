@@ -1,19 +1,24 @@
 -- The bytes that were taken are read in one way.
-use Rattle.std.proofs.Common.{◌≡◌, ◌≢◌, ◌⊎◌, ◌<◌, ℕ, ◌+◌, true, ltb, List, [], ◌∷◌, ◌++◌, length, drop, get_or, Option, Some, unwrap_or, codes, refl, sym, ap, subst, ◌∙◌, inl, inr, arith, append_assoc, length-append}
+use Rattle.std.proofs.Common.{◌≡◌, ◌≢◌, ◌⊎◌, ◌<◌, ℕ, ◌+◌, Bool, true, false, ltb, List, [], ◌∷◌, ◌++◌, length, drop, get_or, Option, Some, unwrap_or, codes, refl, sym, ap, subst, ◌∙◌, inl, inr, arith, append_assoc, length-append}
 use Rattle.std.specs.List.{list_all}
 use Rattle.std.proofs.lemmas.List.{append-nil, append_cancel_right, get_or_at, get_or_append_left}
 use Rattle.std.proofs.lemmas.List.Elements.{All-head, All-tail, All-append}
 use Rattle.std.proofs.lemmas.List.Sums.{AllPass-from_list_all}
 use Rattle.nuc_io.specs.Reading.{Took}
 use Rattle.nuc_io.specs.Line.{IsOneLine}
-use Rattle.nuc_script.specs.Text.{command_line, command_text, script_text}
-use Rattle.nuc_script.specs.Grammar.{IsPlain, IsBuilt, IsCommand, MayFollow, ComeBehind, IsScript}
+use Rattle.nuc_hash.specs.declared.filling.Filling.TheVariants as filling
+use Rattle.nuc_folder.specs.declared.user.UserEdit.TheVariants as edit
+use Rattle.nuc_server.specs.declared.web_edit.WebEdit.{WebEdit}
+use Rattle.nuc_server.specs.declared.web_edit.WebEdit.TheVariants as web
+use Rattle.nuc_script.specs.Text.{path_text, written_text, switch_text, web_text, command_line, command_text, script_text}
+use Rattle.nuc_script.specs.Grammar.{IsPlain, ArePlainNames, IsWebBuilt, IsBuilt, IsCommand, MayFollow, ComeBehind, IsScript}
 use Rattle.nuc_script.specs.Reading.{by_lf, by_end, cut_off, IsBadLine, ReadsScript, IsAnswered}
-use Rattle.nuc_script.specs.Steps.{written}
 use Rattle.nuc_script.specs.declared.command.Command.{Command}
+use Rattle.nuc_script.specs.declared.command.Command.TheVariants as command
 use Rattle.nuc_script.specs.declared.script_read.ScriptRead.{ScriptRead}
 use Rattle.nuc_script.specs.declared.script_read.ScriptRead.TheVariants as read
-use Rattle.nuc_script.proofs.Words.{built_cases, write_line, sync_line, line_unique}
+use Rattle.nuc_script.proofs.Paths.{path_plain, way_of_path}
+use Rattle.nuc_script.proofs.Words.{user_line, pull_line, sync_line, line_unique}
 use Rattle.nuc_script.proofs.Scripts.{script_grows}
 
 high_is_one_line : (bytes : List ℕ) → list_all (λ b. ltb 10 b) bytes ≡ true → IsOneLine bytes
@@ -24,17 +29,47 @@ high_is_one_line bytes high = λ k d below lf.
 plain_is_one_line : (bytes : List ℕ) → IsPlain bytes → IsOneLine bytes
 plain_is_one_line bytes plain = λ k d below lf. omega (arith, (plain k d below).0, lf)
 
+path_is_one_line : (names : List (List ℕ)) → ArePlainNames names → IsOneLine (path_text names)
+path_is_one_line names plain = plain_is_one_line (path_text names) (path_plain names plain)
+
+joined : (xs ys : List ℕ) → IsOneLine xs → IsOneLine ys → IsOneLine (xs ++ ys)
+joined = All-append (λ b. b ≢ 10)
+
+written_is_one_line : (names : List (List ℕ)) (bytes : List ℕ) → ArePlainNames names → IsPlain bytes → IsOneLine (written_text names bytes)
+written_is_one_line names bytes plain plain' =
+    joined (path_text names) (codes " =" ++ bytes) (path_is_one_line names plain)
+    (joined (codes " =") bytes (high_is_one_line (codes " =") refl) (plain_is_one_line bytes plain'))
+
+switch_is_one_line : (on : Bool) → IsOneLine (switch_text on)
+switch_is_one_line true = high_is_one_line (codes "on") refl
+switch_is_one_line false = high_is_one_line (codes "off") refl
+
+web_is_one_line : (edit : WebEdit) → IsWebBuilt edit → IsOneLine (web_text edit)
+web_is_one_line (web.Mkdir path) way =
+    joined (codes "mkdir ") (path_text path.names) (high_is_one_line (codes "mkdir ") refl) (path_is_one_line path.names way.1)
+web_is_one_line (web.Write path (filling.Given bytes)) (way, plain) =
+    joined (codes "write ") (written_text path.names bytes) (high_is_one_line (codes "write ") refl) (written_is_one_line path.names bytes way.1 plain)
+web_is_one_line (web.Move from to) (way, goal) =
+    joined (codes "move ") (path_text from.names ++ (codes " " ++ path_text to.names)) (high_is_one_line (codes "move ") refl)
+    (joined (path_text from.names) (codes " " ++ path_text to.names) (path_is_one_line from.names way.1)
+    (joined (codes " ") (path_text to.names) (high_is_one_line (codes " ") refl) (path_is_one_line to.names goal.1)))
+web_is_one_line (web.Remove path) way =
+    joined (codes "remove ") (path_text path.names) (high_is_one_line (codes "remove ") refl) (path_is_one_line path.names way.1)
+web_is_one_line (web.Bit path on) way =
+    joined (codes "bit ") (path_text path.names ++ (codes " " ++ switch_text on)) (high_is_one_line (codes "bit ") refl)
+    (joined (path_text path.names) (codes " " ++ switch_text on) (path_is_one_line path.names way.1)
+    (joined (codes " ") (switch_text on) (high_is_one_line (codes " ") refl) (switch_is_one_line on)))
+
 -- a command's line is one line
 line_is_one : (c : Command) → IsBuilt c → IsOneLine (command_line c)
-line_is_one c built =
-    elim (built_cases c built) [
-      | inl w ↦
-          subst IsOneLine (sym (ap command_line w.3 ∙ write_line w.0 w.1))
-          (All-append (λ b. b ≢ 10) (codes "write 1 /") (written w.0 w.1) (high_is_one_line (codes "write 1 /") refl)
-          (All-append (λ b. b ≢ 10) w.0 (codes " =" ++ w.1) (plain_is_one_line w.0 w.2.1)
-          (All-append (λ b. b ≢ 10) (codes " =") w.1 (high_is_one_line (codes " =") refl) (plain_is_one_line w.1 w.2.2))))
-      | inr s ↦ subst IsOneLine (sym (ap command_line s ∙ sync_line)) (high_is_one_line (codes "sync 1") refl)
-    ]
+line_is_one (command.User client (edit.Write path (filling.Given bytes))) (one, named, plain) =
+    subst IsOneLine (sym (user_line client path bytes one))
+    (joined (codes "write 1 ") (written_text path.names bytes) (high_is_one_line (codes "write 1 ") refl)
+    (written_is_one_line path.names bytes (way_of_path path.names named).1 plain))
+line_is_one (command.Web edit) built =
+    joined (codes "web ") (web_text edit) (high_is_one_line (codes "web ") refl) (web_is_one_line edit built)
+line_is_one (command.Pull client) one = subst IsOneLine (sym (pull_line client one)) (high_is_one_line (codes "pull 1") refl)
+line_is_one (command.Sync client) one = subst IsOneLine (sym (sync_line client one)) (high_is_one_line (codes "sync 1") refl)
 
 lf_within : (front rest : List ℕ) → IsOneLine (front ++ 10 ∷ rest) → ⊥
 lf_within front rest one_line =

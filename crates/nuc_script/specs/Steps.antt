@@ -1,37 +1,13 @@
 -- The steps of reading a script: what a line says, and the next command.
-use Rattle.std.specs.Prelude.{◌≡◌, ◌≢◌, ℕ, ◌≤◌, List, [], ◌∷◌, ◌++◌, length, Option, Some, None, codes}
-use Rattle.nuc_base.specs.Names.{IsName}
+use Rattle.std.specs.Prelude.{◌≡◌, ◌≢◌, ℕ, ◌≤◌, List, length, Option, Some, None}
 use Rattle.nuc_base.specs.declared.fault.LineFault.TheVariants.{NotBuilt}
 use Rattle.nuc_io.specs.Reading.{Took, AtEnd}
 use Rattle.nuc_script.specs.Text.{command_line, command_text}
-use Rattle.nuc_script.specs.Grammar.{IsPlain, IsPlainByte, IsCommand, MayFollow}
+use Rattle.nuc_script.specs.Grammar.{IsCommand, MayFollow}
 use Rattle.nuc_script.specs.Reading.{IsCutLine}
-use Rattle.nuc_hash.specs.declared.filling.Filling.TheVariants as filling
-use Rattle.nuc_folder.specs.declared.user.UserEdit.TheVariants as edit
 use Rattle.nuc_script.specs.declared.command.Command.{Command}
-use Rattle.nuc_script.specs.declared.command.Command.TheVariants as command
 use Rattle.nuc_script.specs.declared.read.Next.{Next}
 use Rattle.nuc_script.specs.declared.read.Next.TheVariants as next
-
--- the bytes are empty, or begin with one that isn't plain
-abbrev pub StartsOther : List ℕ → Type 0
-StartsOther [] = Unit {0}
-StartsOther (b ∷ bs) = ¬ (IsPlainByte b)
-
--- what stands behind `write 1 /`
-abbrev pub written : List ℕ → List ℕ → List ℕ
-written name bytes = name ++ (codes " =" ++ bytes)
-
-abbrev pub IsWritten : List ℕ → List ℕ → Type 0
-IsWritten name bytes = IsName name × IsPlain name × IsPlain bytes
-
-abbrev pub write_of : List ℕ → List ℕ → Command
-write_of name bytes = command.User 1 (edit.Write (record { names = name ∷ [] }) (filling.Given bytes))
-
--- the write that this gives, if it gives one
-abbrev pub WriteMeans : List ℕ → Option Command → Type 0
-WriteMeans text None = (name bytes : List ℕ) → IsWritten name bytes → text ≢ written name bytes
-WriteMeans text (Some c) = (name bytes : List ℕ) × IsWritten name bytes × (text ≡ written name bytes) × (c ≡ write_of name bytes)
 
 -- the command that a line without LF gives, if it gives one
 abbrev pub Means : List ℕ → Option Command → Type 0

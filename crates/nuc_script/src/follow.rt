@@ -1,6 +1,6 @@
 ghost use Rattle.std.specs.Prelude.{◌≡◌, MatchBool};
 ghost use Rattle.std.specs.List.{list_any};
-ghost use Rattle.nuc_script.specs.Grammar.{IsNew, MayFollow, is_same_path, path_of, writes};
+ghost use Rattle.nuc_script.specs.Grammar.{IsNew, MayFollow, is_same_path, is_web, path_of, writes};
 
 use crate::Command;
 use nuc_base::Path;
@@ -16,13 +16,15 @@ pub fn may_follow(before: &[Command], next: &Command) -> bool
     before.len() < MOST_COMMANDS && is_new(before, next)
 }
 
-/// Whether none of these commands writes what this one does.
+/// Whether none of these commands writes what this one does, and none is of the web where this one is a sync.
 fn is_new(before: &[Command], next: &Command) -> bool
     ensures { MatchBool result (IsNew before.now next.now) (¬ (IsNew before.now next.now)) }
 {
     match next {
         Command::User { edit, .. } => !is_written(before, path_of(edit)),
-        Command::Sync { .. } => true,
+        Command::Web(_) => true,
+        Command::Pull { .. } => true,
+        Command::Sync { .. } => !has_web(before),
     }
 }
 
@@ -33,11 +35,25 @@ fn is_written(before: &[Command], path: &Path) -> bool
     before.iter().any(|command| writes(command, path))
 }
 
+fn has_web(before: &[Command]) -> bool
+    ensures { result ≡ list_any is_web before.now }
+{
+    before.iter().any(is_web)
+}
+
+fn is_web(command: &Command) -> bool
+    ensures { result ≡ is_web command.now }
+{
+    matches!(command, Command::Web(_))
+}
+
 fn writes(command: &Command, path: &Path) -> bool
     ensures { result ≡ writes path.now.names command.now }
 {
     match command {
         Command::User { edit, .. } => is_same_path(path_of(edit), path),
+        Command::Web(_) => false,
+        Command::Pull { .. } => false,
         Command::Sync { .. } => false,
     }
 }

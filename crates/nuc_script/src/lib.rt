@@ -4,9 +4,13 @@
 mod command;
 mod follow;
 mod line;
+mod path;
 mod plain;
 mod read;
 mod script_read;
+mod web;
+mod word;
+mod written;
 
 pub use command::Command;
 pub use read::read_script;
@@ -14,3 +18,5 @@ pub use script_read::{ScriptRead, is_read_in_one_way, is_read_where_it_is_a_scri
 
 #[cfg(test)]
 mod tests;
+#[cfg(test)]
+mod web_tests;

@@ -6,12 +6,12 @@ use std::test::Fail;
 
 /// What a script is to be read as: so many commands, or a fault in this line.
 #[derive(Clone, Copy)]
-enum Wanted {
+pub enum Wanted {
     Commands(usize),
     Fault(u64),
 }
 
-fn is_wanted(read: &ScriptRead, wanted: Wanted) -> bool {
+pub fn is_wanted(read: &ScriptRead, wanted: Wanted) -> bool {
     match (read, wanted) {
         (ScriptRead::Commands(commands), Wanted::Commands(count)) => commands.len() == count,
         (ScriptRead::Fault { line, .. }, Wanted::Fault(number)) => *line == number,
