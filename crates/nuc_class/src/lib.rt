@@ -7,10 +7,16 @@ mod going;
 mod laws;
 mod merge;
 mod op;
+#[cfg(test)]
+mod op_tests;
 mod planned;
 mod ready;
 mod split;
 mod table;
+#[cfg(test)]
+mod tests;
+#[cfg(test)]
+mod wish_tests;
 mod wishes;
 
 pub use effects::effect_of;
