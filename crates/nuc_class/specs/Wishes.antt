@@ -32,12 +32,17 @@ OnlySynced (Some r) l s = ⊥
 abbrev pub AllEqual : Option Node → Option Node → Option Node → Type 0
 AllEqual r l s = (r ≡ l) × (l ≡ s)
 
+-- the table: where each wish applies, by the values in Remote, Local and Synced and by what says that it is going in
+-- Local and in Remote
+abbrev pub Applies : (ℕ → ℕ → Bool) → Type 0 → Type 0 → Option Node → Option Node → Option Node → Wish → Type 0
+Applies same GoesLocal GoesRemote r l s Split = IsTrue (needs_split same r l s)
+Applies same GoesLocal GoesRemote r l s Down = WantsDown same GoesRemote r l s
+Applies same GoesLocal GoesRemote r l s Up = WantsUp GoesLocal r l s
+Applies same GoesLocal GoesRemote r l s CutDown = GoesLocal
+Applies same GoesLocal GoesRemote r l s CutUp = GoesRemote
+Applies same GoesLocal GoesRemote r l s Forget = OnlySynced r l s
+Applies same GoesLocal GoesRemote r l s Nothing = AllEqual r l s
+
 -- what x wishes in Remote, Local and Synced
 abbrev pub IsWish : (ℕ → ℕ → Bool) → Nodes → Nodes → Nodes → ℕ → Wish → Type 0
-IsWish same r l s x Split = IsTrue (needs_split same (get r x) (get l x) (get s x))
-IsWish same r l s x Down = WantsDown same (GoingRemote r l s x) (get r x) (get l x) (get s x)
-IsWish same r l s x Up = WantsUp (GoingLocal r l s x) (get r x) (get l x) (get s x)
-IsWish same r l s x CutDown = GoingLocal r l s x
-IsWish same r l s x CutUp = GoingRemote r l s x
-IsWish same r l s x Forget = OnlySynced (get r x) (get l x) (get s x)
-IsWish same r l s x Nothing = AllEqual (get r x) (get l x) (get s x)
+IsWish same r l s x w = Applies same (GoingLocal r l s x) (GoingRemote r l s x) (get r x) (get l x) (get s x) w

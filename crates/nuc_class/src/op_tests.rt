@@ -13,12 +13,21 @@ type Wished = (Wish, [Option<Row>; 3]);
 type Writes = [Option<Option<Row>>; 3];
 
 const KEEP: Option<Option<Row>> = None;
+
 const CUT: Option<Option<Row>> = Some(None);
 
 fn op_of(alloc: Global, (wish, [r, l, s]): Wished) -> Result<Option<Op>, Fail> {
     let (r, l, s) = (value(alloc, r)?, value(alloc, l)?, value(alloc, s)?);
     let id = NodeId(4);
-    Ok(operation(alloc, wish, id, r.as_ref(), l.as_ref(), s.as_ref(), &LastDigit)?)
+    Ok(operation(
+        alloc,
+        wish,
+        id,
+        r.as_ref(),
+        l.as_ref(),
+        s.as_ref(),
+        &LastDigit,
+    )?)
 }
 
 fn is_written(alloc: Global, change: &Change, want: Option<Option<Row>>) -> Result<bool, Fail> {
@@ -68,11 +77,41 @@ fn ups_and_cuts(rt: HostRuntime) -> Result<(), Fail> {
     let old = Some((0, b"f".as_slice(), 5, false));
     let new = Some((0, b"f".as_slice(), 7, false));
     for (wish, values, verb, want, effect) in [
-        (Wish::Up, [old, new, old], Verb::Up, [Some(new), KEEP, Some(new)], Effect::Commit),
-        (Wish::Up, [None, new, None], Verb::Up, [Some(new), KEEP, Some(new)], Effect::Commit),
-        (Wish::CutDown, [None, old, old], Verb::CutDown, [KEEP, CUT, CUT], Effect::Disk),
-        (Wish::CutUp, [old, None, old], Verb::CutUp, [CUT, KEEP, CUT], Effect::Commit),
-        (Wish::Forget, [None, None, old], Verb::Forget, [KEEP, KEEP, CUT], Effect::Nothing),
+        (
+            Wish::Up,
+            [old, new, old],
+            Verb::Up,
+            [Some(new), KEEP, Some(new)],
+            Effect::Commit,
+        ),
+        (
+            Wish::Up,
+            [None, new, None],
+            Verb::Up,
+            [Some(new), KEEP, Some(new)],
+            Effect::Commit,
+        ),
+        (
+            Wish::CutDown,
+            [None, old, old],
+            Verb::CutDown,
+            [KEEP, CUT, CUT],
+            Effect::Disk,
+        ),
+        (
+            Wish::CutUp,
+            [old, None, old],
+            Verb::CutUp,
+            [CUT, KEEP, CUT],
+            Effect::Commit,
+        ),
+        (
+            Wish::Forget,
+            [None, None, old],
+            Verb::Forget,
+            [KEEP, KEEP, CUT],
+            Effect::Nothing,
+        ),
     ] {
         let op = op_of(rt.alloc(), (wish, values))?.ok_or("an operation")?;
         assert_eq!(rt; (op.verb, op.effect), (verb, effect));
@@ -80,7 +119,10 @@ fn ups_and_cuts(rt: HostRuntime) -> Result<(), Fail> {
         let [_, l, s] = values;
         assert!(rt; same_value(op.old_local.as_ref(), value(rt.alloc(), l)?.as_ref()));
         assert!(rt; same_value(op.old_synced.as_ref(), value(rt.alloc(), s)?.as_ref()));
-        assert_eq!(rt; (op.number, op.id, op.other, op.base), (0, NodeId(4), NodeId(0), 0));
+        assert_eq!(rt;
+            (op.number, op.id, op.other, op.base),
+            (0, NodeId(4), NodeId(0), 0)
+        );
     }
     Ok(())
 }

@@ -24,10 +24,13 @@ pub fn due<T: TreeLike, H: Hashes>(
     ensures { IfOk result (λ due. MatchOption due (NothingDue (H.same h.now) (T.nodes r.now) (T.nodes l.now) (T.nodes s.now) id.0) (IsDue (H.same h.now) (T.nodes r.now) (T.nodes l.now) (T.nodes s.now) id.0)) }
 {
     let wish = wish(r, l, s, h, id);
-    let op = operation(alloc, wish, id, r.get(id), l.get(id), s.get(id), h)?;
-    match op {
-        Some(op) if is_legal(r, l, s, &op) => Ok(Some(op)),
-        _ => Ok(None),
+    let Some(op) = operation(alloc, wish, id, r.get(id), l.get(id), s.get(id), h)? else {
+        return Ok(None);
+    };
+    if is_legal(r, l, s, &op) {
+        Ok(Some(op))
+    } else {
+        Ok(None)
     }
 }
 

@@ -44,15 +44,40 @@ fn targets(rt: HostRuntime) -> Result<(), Fail> {
     let local = (2, b"b".as_slice(), 8, true);
     for (r, l, s, want) in [
         // Without Local's node, or Synced's, it is Remote's.
-        ((0, b"a".as_slice(), 7, true), None, None, (0, b"a".as_slice(), 7, true)),
+        (
+            (0, b"a".as_slice(), 7, true),
+            None,
+            None,
+            (0, b"a".as_slice(), 7, true),
+        ),
         ((0, b"a", 7, true), None, Some(old), (0, b"a", 7, true)),
         ((0, b"a", 7, false), Some(local), None, (0, b"a", 7, false)),
         // Remote changed nothing, its parent, its name, its version, its bit.
         (old, Some(local), Some(old), local),
-        ((3, b"a", 5, false), Some(local), Some(old), (3, b"a", 8, true)),
-        ((0, b"c", 5, false), Some(local), Some(old), (0, b"c", 8, true)),
-        ((0, b"a", 7, false), Some(local), Some(old), (2, b"b", 7, true)),
-        ((0, b"a", 5, true), Some((2, b"b", 8, false)), Some(old), (2, b"b", 8, true)),
+        (
+            (3, b"a", 5, false),
+            Some(local),
+            Some(old),
+            (3, b"a", 8, true),
+        ),
+        (
+            (0, b"c", 5, false),
+            Some(local),
+            Some(old),
+            (0, b"c", 8, true),
+        ),
+        (
+            (0, b"a", 7, false),
+            Some(local),
+            Some(old),
+            (2, b"b", 7, true),
+        ),
+        (
+            (0, b"a", 5, true),
+            Some((2, b"b", 8, false)),
+            Some(old),
+            (2, b"b", 8, true),
+        ),
     ] {
         let alloc = rt.alloc();
         let (r, l, s) = (node(alloc, r)?, value(alloc, l)?, value(alloc, s)?);
@@ -78,7 +103,10 @@ fn splits(rt: HostRuntime) -> Result<(), Fail> {
         let [r, l, s] = [r, l, s].map(|ver| ver.map(|ver| (0, b"a".as_slice(), ver, false)));
         let alloc = rt.alloc();
         let (r, l, s) = (value(alloc, r)?, value(alloc, l)?, value(alloc, s)?);
-        assert_eq!(rt; needs_split(r.as_ref(), l.as_ref(), s.as_ref(), &LastDigit), want);
+        assert_eq!(rt;
+            needs_split(r.as_ref(), l.as_ref(), s.as_ref(), &LastDigit),
+            want
+        );
     }
     Ok(())
 }

@@ -36,7 +36,11 @@ fn tree(rt: &impl Abort, alloc: Global, rows: &[Row]) -> Result<Tree, Fail>
 /// Whether identity 1 has this wish, by the nodes of Remote, Local and Synced.
 fn is_wished(rt: &impl Abort, alloc: Global, trees: [&[Row]; 3], want: Wish) -> Result<(), Fail> {
     let [r, l, s] = trees;
-    let (r, l, s) = (tree(rt, alloc, r)?, tree(rt, alloc, l)?, tree(rt, alloc, s)?);
+    let (r, l, s) = (
+        tree(rt, alloc, r)?,
+        tree(rt, alloc, l)?,
+        tree(rt, alloc, s)?,
+    );
     assert_eq!(rt; wish(&r, &l, &s, &LastDigit, NodeId(1)), want);
     Ok(())
 }
@@ -86,7 +90,12 @@ fn one_side_has_it(rt: HostRuntime) -> Result<(), Fail> {
 fn a_folder_goes_in_local(rt: HostRuntime) -> Result<(), Fail> {
     let whole = [D, (2, 1, b"e".as_slice(), 0), (3, 2, b"f", 5)];
     let newer = [D, (2, 1, b"e".as_slice(), 0), (3, 2, b"f", 8)];
-    let more = [D, (2, 1, b"e".as_slice(), 0), (3, 2, b"f", 5), (4, 2, b"g", 6)];
+    let more = [
+        D,
+        (2, 1, b"e".as_slice(), 0),
+        (3, 2, b"f", 5),
+        (4, 2, b"g", 6),
+    ];
     let out: [Row; 1] = [(3, 0, b"f", 5)];
     for (r, l, s, want) in [
         (&[][..], &whole[..], &whole[..], Wish::CutDown),
@@ -108,7 +117,12 @@ fn a_folder_goes_in_local(rt: HostRuntime) -> Result<(), Fail> {
 fn a_folder_goes_in_remote(rt: HostRuntime) -> Result<(), Fail> {
     let whole = [D, (2, 1, b"e".as_slice(), 0), (3, 2, b"f", 5)];
     let newer = [D, (2, 1, b"e".as_slice(), 0), (3, 2, b"f", 8)];
-    let more = [D, (2, 1, b"e".as_slice(), 0), (3, 2, b"f", 5), (4, 2, b"g", 6)];
+    let more = [
+        D,
+        (2, 1, b"e".as_slice(), 0),
+        (3, 2, b"f", 5),
+        (4, 2, b"g", 6),
+    ];
     let moved = [D, (2, 1, b"e".as_slice(), 0), (3, 2, b"h", 5)];
     let out: [Row; 1] = [(3, 0, b"f", 5)];
     for (r, l, s, want) in [

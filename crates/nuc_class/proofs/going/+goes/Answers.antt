@@ -37,10 +37,10 @@ returns-then-not-goes g t c whole =
 pub loop-i-preserved : goal.loop-i-preserved
 loop-i-preserved g t c =
     go_more _ _ _ _ c.args.id.0 c.loop-i.i c.in-Some.child.0 (sym c.in-Some.ensures)
-        (λ not_spared. elim c.else-not-is_spared.branch [
-          | else-not-is_spared-via-then-not-is_spared+else-not-goes w ↦ w.if-not-goes.ensures
-          | else-not-is_spared-via-else-not-is_spared w ↦ absurd (not_spared w.if-not-is_spared.ensures)
-        ]) c.loop-i.invariant
+    (λ not_spared. elim c.else-not-is_spared.branch [
+      | else-not-is_spared-via-then-not-is_spared+else-not-goes w ↦ w.if-not-goes.ensures
+      | else-not-is_spared-via-else-not-is_spared w ↦ absurd (not_spared w.if-not-is_spared.ensures)
+    ]) c.loop-i.invariant
 
 pub returns : goal.returns
 returns g t c =
