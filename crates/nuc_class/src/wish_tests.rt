@@ -1,9 +1,9 @@
-//! The rows of the table of wishes, over small trees.
+//! The rows of the table of wishes, and what is due, over small trees.
 ghost use Rattle.std.specs.Prelude.{IfOk};
 ghost use Rattle.nuc_base.specs.Trees.{WellFormed};
 
 use crate::tests::LastDigit;
-use crate::{Wish, wish};
+use crate::{Verb, Wish, due, wish};
 use nuc_base::{Kind, Name, Node, NodeId, Place, TreeLike, Ver};
 use nuc_tree::Tree;
 use std::alloc::Global;
@@ -140,5 +140,33 @@ fn a_folder_goes_in_remote(rt: HostRuntime) -> Result<(), Fail> {
     ] {
         is_wished(&rt, rt.alloc(), [r, l, s], want)?;
     }
+    Ok(())
+}
+
+/// What is due at identity 1 where Remote has nothing yet.
+fn due_at_first(
+    rt: &impl Abort,
+    alloc: Global,
+    l: &[Row],
+    s: &[Row],
+) -> Result<Option<Verb>, Fail> {
+    let r = Tree::new(alloc);
+    let (l, s) = (tree(rt, alloc, l)?, tree(rt, alloc, s)?);
+    match due(alloc, &r, &l, &s, &LastDigit, NodeId(1))? {
+        Some(op) => Ok(Some(op.verb)),
+        None => Ok(None),
+    }
+}
+
+#[test]
+fn what_is_legal_is_due(rt: HostRuntime) -> Result<(), Fail> {
+    let alloc = rt.alloc();
+    let (new, old) = (file(7), file(5));
+    let holder: [Row; 1] = [(2, 0, b"f", 3)];
+    assert_eq!(rt; due_at_first(&rt, alloc, &new, &[])?, Some(Verb::Up));
+    assert_eq!(rt; due_at_first(&rt, alloc, &new, &holder)?, None);
+    assert_eq!(rt; due_at_first(&rt, alloc, &old, &old)?, Some(Verb::CutDown));
+    assert_eq!(rt; due_at_first(&rt, alloc, &[], &old)?, Some(Verb::Forget));
+    assert_eq!(rt; due_at_first(&rt, alloc, &[], &[])?, None);
     Ok(())
 }
