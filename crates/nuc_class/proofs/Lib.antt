@@ -1,0 +1,5 @@
+pub mod Decided
+pub mod Fits
+pub mod Rows
+pub mod Tells
+pub mod Walk

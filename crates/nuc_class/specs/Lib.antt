@@ -1,1 +1,10 @@
+pub mod Due
+pub mod Effects
+pub mod Equal
+pub mod Going
+pub mod Laws
+pub mod Merge
 pub mod Op
+pub mod Sides
+pub mod Split
+pub mod Wishes

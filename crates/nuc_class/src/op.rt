@@ -1,18 +1,42 @@
 ghost use Rattle.std.specs.Prelude.{◌≡◌, IfOk};
+ghost use Rattle.std.specs.Option.{option_copied};
 
 use nuc_base::{Change, Node, NodeId};
 use std::alloc::{AllocError, Global};
 
-/// What an operation is for.
+/// What an operation is for. The first five carry out the wish of that name; the others are mends, which clear the way
+/// for wishes that can't be carried out yet.
 #[derive(Clone, Copy, Debug, PartialEq, Eq)]
 pub enum Verb {
+    /// What the server has comes to the folder.
+    Down,
     /// What the folder has goes to the server.
     Up,
+    /// What the server has deleted goes in the folder.
+    CutDown,
+    /// What the folder has deleted goes at the server.
+    CutUp,
+    /// What both have deleted is forgotten.
+    Forget,
+    /// Two nodes that came to one place on the two sides become one.
+    Adopt,
+    /// The local version of a file becomes a file of its own, a conflicted copy.
+    Split,
+    /// A folder goes back to where the server has it.
+    Unmove,
+    /// A folder that the folder's user has deleted comes back.
+    Revive,
+    /// A node leaves the place that another is to have.
+    Evict,
 }
 
 /// Where an operation is carried out.
 #[derive(Clone, Copy, Debug, PartialEq, Eq)]
 pub enum Effect {
+    /// Nowhere: the client alone notes it.
+    Nothing,
+    /// In the folder.
+    Disk,
     /// At the server.
     Commit,
 }
@@ -71,16 +95,17 @@ impl Op {
             remote: self.remote.copy(alloc)?,
             local: self.local.copy(alloc)?,
             synced: self.synced.copy(alloc)?,
-            old_local: copy_of(alloc, &self.old_local)?,
-            old_synced: copy_of(alloc, &self.old_synced)?,
+            old_local: copy_of(alloc, self.old_local.as_ref())?,
+            old_synced: copy_of(alloc, self.old_synced.as_ref())?,
             base: self.base,
             effect: self.effect,
         })
     }
 }
 
-fn copy_of(alloc: Global, node: &Option<Node>) -> Result<Option<Node>, AllocError>
-    ensures { IfOk result (λ copy. copy ≡ node.now) }
+/// The same value, with a name in memory of its own.
+pub(crate) fn copy_of(alloc: Global, node: Option<&Node>) -> Result<Option<Node>, AllocError>
+    ensures { IfOk result (λ copy. copy ≡ option_copied node.entry) }
 {
     match node {
         Some(node) => Ok(Some(node.copy(alloc)?)),

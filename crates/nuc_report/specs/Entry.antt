@@ -10,7 +10,7 @@ use Rattle.nuc_folder.specs.declared.user.UserReply.{UserReply}
 use Rattle.nuc_folder.specs.declared.user.UserReply.TheVariants as user
 use Rattle.nuc_class.specs.declared.op.Op.{Op}
 use Rattle.nuc_class.specs.declared.op.Verb.{Verb}
-use Rattle.nuc_class.specs.declared.op.Verb.TheVariants.{Up}
+use Rattle.nuc_class.specs.declared.op.Verb.TheVariants as verb
 use Rattle.nuc_step.specs.declared.event.Event.{Event}
 use Rattle.nuc_step.specs.declared.event.Event.TheVariants as event
 use Rattle.nuc_step.specs.declared.reply.Reply.{Reply}
@@ -37,7 +37,16 @@ item_line item =
     line (codes "item" ∷ decimal item.key.0 ∷ decimal item.parent.0 ∷ content_words item.content ++ escaped item.name ∷ [])
 
 abbrev pub verb_word : Verb → List ℕ
-verb_word Up = codes "up"
+verb_word verb.Down = codes "down"
+verb_word verb.Up = codes "up"
+verb_word verb.CutDown = codes "cutdown"
+verb_word verb.CutUp = codes "cutup"
+verb_word verb.Forget = codes "forget"
+verb_word verb.Adopt = codes "adopt"
+verb_word verb.Split = codes "split"
+verb_word verb.Unmove = codes "unmove"
+verb_word verb.Revive = codes "revive"
+verb_word verb.Evict = codes "evict"
 
 abbrev pub op_line : Op → List ℕ
 op_line op = line (codes "op" ∷ decimal op.number ∷ verb_word op.verb ∷ decimal op.id.0 ∷ decimal op.other.0 ∷ [])

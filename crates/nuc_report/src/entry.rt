@@ -59,10 +59,27 @@ fn op_line(alloc: Global, op: &Op) -> Result<String, AllocError>
     ensures { IfOk result (λ text. string_bytes text ≡ op_line op.now) }
 {
     let number = op.number;
-    let Verb::Up = op.verb;
+    let verb = verb_word(op.verb);
     let id = op.id.0;
     let other = op.other.0;
-    format!(in alloc; "op {number} up {id} {other}\n")
+    format!(in alloc; "op {number} {verb} {id} {other}\n")
+}
+
+fn verb_word(verb: Verb) -> &'static str
+    ensures { result.now ≡ verb_word verb }
+{
+    match verb {
+        Verb::Down => "down",
+        Verb::Up => "up",
+        Verb::CutDown => "cutdown",
+        Verb::CutUp => "cutup",
+        Verb::Forget => "forget",
+        Verb::Adopt => "adopt",
+        Verb::Split => "split",
+        Verb::Unmove => "unmove",
+        Verb::Revive => "revive",
+        Verb::Evict => "evict",
+    }
 }
 
 fn edit_text(alloc: Global, edit: &UserEdit) -> Result<String, AllocError>
