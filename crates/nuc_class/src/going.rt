@@ -31,7 +31,7 @@ pub(crate) enum Side {
     Remote,
 }
 
-/// Whether `id` goes on its own side, which is well formed. No more than `left` generations stand from it downwards.
+/// Whether `id` goes on its own side. A walk from it down to the last generation takes fewer than `left` steps.
 fn goes<T: TreeLike>(side: Side, other: &T, own: &T, s: &T, id: NodeId, left: u64) -> bool
     requires form { WellFormed (T.nodes own.now) }
     requires room { (k : ℕ) → 0 < k → Steps (T.nodes own.now) 0 id.0 k → map.len (T.nodes own.now) < k + left }
