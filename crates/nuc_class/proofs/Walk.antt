@@ -1,5 +1,5 @@
 -- Going, seen from the children at their positions, and how far a walk down a tree can lead.
-use Rattle.std.proofs.Common.{◌≡◌, ◌≢◌, ◌<◌, ◌≤◌, ◌+◌, ◌-◌, ℕ, suc, List, length, Option, None, Some, sym, ap, subst, ◌∙◌, inl, inr, arith, refl}
+use Rattle.std.proofs.Common.{◌≡◌, ◌≢◌, ◌<◌, ◌≤◌, ◌+◌, ◌-◌, ℕ, List, length, Option, None, Some, sym, ap, subst, ◌∙◌, inl, inr, arith, refl}
 use Rattle.std.specs.List.{slice_get}
 use Rattle.std.specs.FinMap.{get, len}
 use Rattle.std.proofs.lemmas.Option.{same_Some, slice_get_cases}

@@ -1,7 +1,5 @@
-use Rattle.std.proofs.Common.{◌≡◌, Some, sym, arith, rules}
+use Rattle.std.proofs.Common.{sym, arith, rules}
 use Rattle.std.specs.FinMap as map
-use Rattle.std.specs.List.{slice_get}
-use Rattle.nuc_base.specs.Trees.{children}
 use Rattle.nuc_base.proofs.Children.{child_there, children_bound}
 use Rattle.nuc_class.specs.Going.{IsKept}
 use Rattle.nuc_class.proofs.Walk.{at_end, kept_parts, going-child, going_of_children, go_more, some_left, room_below}
