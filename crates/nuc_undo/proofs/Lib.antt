@@ -1,2 +1,2 @@
-mod Comes
+mod Leads
 mod Undoing

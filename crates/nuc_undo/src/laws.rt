@@ -1,7 +1,12 @@
-ghost use Rattle.nuc_undo.specs.Laws.{ComesBack};
+ghost use Rattle.nuc_undo.specs.Laws.{BackLeadsBack, StepsLeadBack};
 
-/// As many steps back as there were changes lead to the tree before them, with the same past and no less spare: the
-/// same changes can be made again, and want no memory where they wanted none before.
-pub fn comes_back()
-    ensures { ComesBack }
+/// After some changes, as many calls of `undo_last` lead to the tree before them, with the same past and no less
+/// spare. So the changes can be made again, and want no memory where they wanted none.
+pub fn steps_lead_back()
+    ensures { StepsLeadBack }
+{}
+
+/// After some changes of a settled tree, `back` leads to the tree before them, with no less spare.
+pub fn back_leads_back()
+    ensures { BackLeadsBack }
 {}

@@ -7,6 +7,6 @@ mod tests;
 mod undo;
 mod undo_tree;
 
-pub use laws::comes_back;
+pub use laws::{back_leads_back, steps_lead_back};
 pub use undo::Undone;
 pub use undo_tree::UndoTree;

@@ -1,9 +1,10 @@
-ghost use Rattle.std.specs.Prelude.{◌≡◌, ◌≤◌, ◌<◌, ◌+◌, [], ◌∷◌, length, IfOk, OnOk, OnErr, IfSome, OnSome, MatchOption};
+ghost use Rattle.std.specs.Prelude.{◌≡◌, ◌≤◌, ◌<◌, [], OnOk, OnErr, IfSome, IfNone};
 ghost use Rattle.std.specs.FinMap as map;
 ghost use Rattle.nuc_base.specs.Kinds.{FitsKind};
 ghost use Rattle.nuc_base.specs.Legal.{LegalPut, LegalCut};
 ghost use Rattle.nuc_base.specs.Trees.{WellFormed};
 ghost use Rattle.nuc_undo.specs.State.{settled_of};
+ghost use Rattle.nuc_undo.specs.Steps.{AllTakenBack, Changed, Keeps, TakenBack};
 
 use crate::Undone;
 use crate::undo::{Undo, cut_undoable, put_undoable, take_back};
@@ -16,7 +17,7 @@ use std::marker::Model;
 /// A change takes one of `spare`, and gives it back when it is taken back. Each call takes a fixed number of calls of
 /// the tree, and `back` as many as there are changes to take back.
 #[derive(Drop)]
-pub struct UndoTree<T: TreeLike + Drop> {
+pub struct UndoTree<T: TreeLike> {
     tree: T,
     /// How each change since the last `settle` is taken back.
     undos: Vec<Undo>,
@@ -24,7 +25,7 @@ pub struct UndoTree<T: TreeLike + Drop> {
     kept: u64,
 }
 
-impl<T: TreeLike + Drop> Model for UndoTree<T> {
+impl<T: TreeLike> Model for UndoTree<T> {
     ghost use Rattle.nuc_undo.specs.State.{UndoState, state_code};
 
     ghost Value = { UndoState };
@@ -39,7 +40,7 @@ impl<T: TreeLike + Drop> Model for UndoTree<T> {
     ghost invariant = { λ t. IsUndoTree (T.nodes t.tree) (reverse t.undos.items) (T.spare t.tree) t.kept };
 }
 
-impl<T: TreeLike + Drop> UndoTree<T> {
+impl<T: TreeLike> UndoTree<T> {
     /// A tree without changes to take back. It takes no memory.
     pub fn of(alloc: Global, tree: T) -> UndoTree<T>
         requires { WellFormed (T.nodes tree) }
@@ -65,11 +66,9 @@ impl<T: TreeLike + Drop> UndoTree<T> {
     /// fail; a number too great to be had is want of memory.
     pub fn reserve(&mut self, n: u64) -> Result<(), AllocError>
         ensures ok { OnOk result (n ≤ self.new.spare) }
-        ensures now { self.new.now ≡ self.old.now }
-        ensures past { self.new.past ≡ self.old.past }
-        ensures form { WellFormed self.new.now }
+        ensures keeps { Keeps self.old self.new }
         ensures memory { OnErr result (self.old.spare < n) }
-        ensures spare { self.old.spare ≤ self.new.spare }
+        ensures form { WellFormed self.new.now }
     {
         let room = self.kept.checked_add(n).ok_or(AllocError)?;
         self.tree.reserve(room)?;
@@ -82,13 +81,11 @@ impl<T: TreeLike + Drop> UndoTree<T> {
         requires fits { FitsKind node }
         requires legal { LegalPut self.old.now id.0 node }
         ensures ok { OnOk result (self.new.now ≡ map.insert self.old.now id.0 node) }
-        ensures past { OnOk result (self.new.past ≡ record { nodes = self.old.now; id = id.0 } ∷ self.old.past) }
+        ensures changed { OnOk result (Changed self.old id.0 self.new) }
+        ensures err { OnErr result (Keeps self.old self.new) }
+        ensures memory { OnErr result (self.old.spare ≡ 0) }
         ensures settled { settled_of self.new ≡ settled_of self.old }
         ensures form { WellFormed self.new.now }
-        ensures err { OnErr result ((self.new.now ≡ self.old.now) × (self.new.past ≡ self.old.past)) }
-        ensures memory { OnErr result (self.old.spare ≡ 0) }
-        ensures spare { OnOk result (self.old.spare ≤ self.new.spare + 1) }
-        ensures spare_err { OnErr result (self.old.spare ≤ self.new.spare) }
     {
         self.reserve(1)?;
         let undo = put_undoable(&mut self.tree, id, node)?;
@@ -101,13 +98,11 @@ impl<T: TreeLike + Drop> UndoTree<T> {
     pub fn cut(&mut self, id: NodeId) -> Result<(), AllocError>
         requires { LegalCut self.old.now id.0 }
         ensures ok { OnOk result (self.new.now ≡ map.remove self.old.now id.0) }
-        ensures past { OnOk result (self.new.past ≡ record { nodes = self.old.now; id = id.0 } ∷ self.old.past) }
+        ensures changed { OnOk result (Changed self.old id.0 self.new) }
+        ensures err { OnErr result (Keeps self.old self.new) }
+        ensures memory { OnErr result (self.old.spare ≡ 0) }
         ensures settled { settled_of self.new ≡ settled_of self.old }
         ensures form { WellFormed self.new.now }
-        ensures err { OnErr result ((self.new.now ≡ self.old.now) × (self.new.past ≡ self.old.past)) }
-        ensures memory { OnErr result (self.old.spare ≡ 0) }
-        ensures spare { OnOk result (self.old.spare ≤ self.new.spare + 1) }
-        ensures spare_err { OnErr result (self.old.spare ≤ self.new.spare) }
     {
         self.reserve(1)?;
         let undo = cut_undoable(&mut self.tree, id);
@@ -119,12 +114,11 @@ impl<T: TreeLike + Drop> UndoTree<T> {
     /// Takes the last change since `settle` back, and hands over the node that it had put; none where there is no such
     /// change. It takes no memory.
     pub fn undo_last(&mut self) -> Option<Undone>
-        ensures past { MatchOption result (self.old.past ≡ []) (λ u. self.old.past ≡ record { nodes = self.new.now; id = u.id.0 } ∷ self.new.past) }
+        ensures last { IfSome result (λ u. TakenBack self.old u.id.0 self.new) }
         ensures node { IfSome result (λ u. u.node ≡ map.get self.old.now u.id.0) }
-        ensures none { MatchOption result (self.new ≡ self.old) (λ _. Unit {0}) }
+        ensures none { IfNone result ((self.old.past ≡ []) × (self.new ≡ self.old)) }
         ensures settled { settled_of self.new ≡ settled_of self.old }
         ensures form { WellFormed self.new.now }
-        ensures spare { OnSome result (self.old.spare + 1 ≤ self.new.spare) }
     {
         let undo = self.undos.pop()?;
         self.kept -= undo.owed();
@@ -143,10 +137,8 @@ impl<T: TreeLike + Drop> UndoTree<T> {
 
     /// Takes back all changes since `settle` was last called, or since the tree was made. It takes no memory.
     pub fn back(&mut self)
-        ensures now { self.new.now ≡ settled_of self.old }
-        ensures past { self.new.past ≡ [] }
+        ensures back { AllTakenBack self.old self.new }
         ensures form { WellFormed self.new.now }
-        ensures spare { self.old.spare + length self.old.past ≤ self.new.spare }
     {
         while self.undo_last().is_some() {}
     }

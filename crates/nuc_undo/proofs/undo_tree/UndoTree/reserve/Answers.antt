@@ -7,4 +7,4 @@ pub returns-in_err-room-clause-memory : goal.returns-in_err-room-clause-memory
 returns-in_err-room-clause-memory g c =
     let few = few_owed (reverse c.self.inside.undos.items) in
     let size = length-reverse c.self.inside.undos.items in
-    ?
+    grind arith
