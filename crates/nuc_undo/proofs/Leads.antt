@@ -1,33 +1,19 @@
 -- Where changes and taking them back lead.
 use Rattle.std.proofs.Common.{◌≡◌, ◌≤◌, ◌+◌, ℕ, zero, suc, List, [], ◌∷◌, length, refl, sym, ◌∙◌, ap, arith}
-use Rattle.nuc_base.specs.Trees.{Nodes}
 use Rattle.nuc_undo.specs.Laws.{BackLeadsBack, Changes, StepsBack, StepsLeadBack}
 use Rattle.nuc_undo.specs.Laws.Changes.{no_change, one_change}
 use Rattle.nuc_undo.specs.Laws.StepsBack.{no_step, one_step}
-use Rattle.nuc_undo.specs.State.{Before, UndoState, earliest, settled_of}
-use Rattle.nuc_undo.specs.Steps.{AllTakenBack, Changed, Keeps, TakenBack}
-
-same_latest : (m n : Nodes) (x y : ℕ) (before after : List Before)
-    → ◌≡◌ {A = List Before} (record { nodes = m; id = x } ∷ before) (record { nodes = n; id = y } ∷ after) → (m ≡ n) × (before ≡ after)
-same_latest m n x y before after e =
-    let latest : ◌≡◌ {A = Before} (record { nodes = m; id = x }) (record { nodes = n; id = y }) = cc in
-    (ap (λ (b : Before). b.nodes) latest, cc)
-
-step_again : (s t v w : UndoState) (x y : ℕ) → Changed s x t → Keeps t v → TakenBack v y w → Keeps s w
-step_again s t v w x y change again back =
-    let (now, past) = same_latest w.now s.now y x w.past s.past (sym back.past ∙ again.past ∙ change.past) in
-    let a = change.spare in
-    let b = again.spare in
-    let d = back.spare in
-    record { now = now; past = past; spare = omega arith }
+use Rattle.nuc_undo.specs.State.{UndoState, earliest, settled_of}
+use Rattle.nuc_undo.specs.Steps.{Keeps}
+use Rattle.nuc_undo.proofs.Steps.{taken_back, unchanged}
 
 again_from : (k : ℕ) (s t v w : UndoState) → Changes k s t → Keeps t v → StepsBack k v w → Keeps s w
 again_from zero _ _ _ _ (no_change s) again (no_step v) = again
 again_from (suc _) _ _ _ _ (one_change k x s r t changes change) again (one_step _ y v u w back steps) =
-    again_from k s r u w changes (step_again r t v u x y change again back) steps
+    again_from k s r u w changes (taken_back r t v u x y change again back).keeps steps
 
 pub steps_lead_back : StepsLeadBack
-steps_lead_back k s t u changes steps = again_from k s t t u changes (record { now = refl; past = refl; spare = omega arith }) steps
+steps_lead_back k s t u changes steps = again_from k s t t u changes (unchanged t) steps
 
 -- what changes lead to
 record Reached (s t : UndoState) : Type 0 where

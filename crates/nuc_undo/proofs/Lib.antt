@@ -1,2 +1,3 @@
 mod Leads
-mod Undoing
+pub mod Steps
+pub mod Undoing

@@ -164,14 +164,15 @@ fn puts_twice(tree: &mut UndoTree<Tree>, id: NodeId, node: Node) -> Result<(), A
     ensures { OnOk result (tree.new.now ≡ map.insert tree.old.now id.0 node) }
 {
     tree.reserve(1)?;
-    if tree.put(id, node).is_err() {
-        unreachable!()
-    }
-    let Some(Undone { id, node: Some(node) }) = tree.undo_last() else {
+    let Ok(()) = tree.put(id, node) else {
         unreachable!()
     };
-    if tree.put(id, node).is_err() {
+    let Some(Undone { id, node }) = tree.undo_last() else {
         unreachable!()
-    }
+    };
+    let Some(node) = node else { unreachable!() };
+    let Ok(()) = tree.put(id, node) else {
+        unreachable!()
+    };
     Ok(())
 }
