@@ -1,5 +1,5 @@
 -- Where changes and taking them back lead.
-use Rattle.std.proofs.Common.{◌≡◌, ◌≤◌, ◌+◌, ℕ, zero, suc, List, [], ◌∷◌, length, refl, sym, ◌∙◌, ap, arith}
+use Rattle.std.proofs.Common.{◌≡◌, ◌≤◌, ◌+◌, ℕ, zero, suc, length, refl, sym, ◌∙◌, ap, arith}
 use Rattle.nuc_undo.specs.Laws.{BackLeadsBack, Changes, StepsBack, StepsLeadBack}
 use Rattle.nuc_undo.specs.Laws.Changes.{no_change, one_change}
 use Rattle.nuc_undo.specs.Laws.StepsBack.{no_step, one_step}

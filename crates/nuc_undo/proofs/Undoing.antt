@@ -1,8 +1,7 @@
 -- A change that is taken back, and what is kept for that.
 use Rattle.std.proofs.Common.{◌≡◌, ◌<◌, ◌≤◌, ◌+◌, ℕ, List, [], ◌∷◌, length, None, Some, refl, sym, subst, inl, inr, arith}
 use Rattle.std.specs.FinMap.{get, insert, remove}
-use Rattle.nuc_base.specs.Kinds.{FitsKind}
-use Rattle.nuc_base.specs.Legal.{LegalPut, LegalCut}
+use Rattle.nuc_base.specs.Legal.{LegalPut}
 use Rattle.nuc_base.specs.Trees.{Nodes, IsThere, WellFormed}
 use Rattle.nuc_base.specs.declared.node.Node.{Node}
 use Rattle.nuc_base.specs.declared.node.NodeId.{NodeId}

@@ -1,6 +1,6 @@
 -- What a call makes of a state.
-use Rattle.std.specs.Prelude.{◌≡◌, ◌≤◌, ◌+◌, ℕ, List, [], ◌∷◌, length}
-use Rattle.nuc_undo.specs.State.{Before, UndoState, settled_of}
+use Rattle.std.specs.Prelude.{◌≡◌, ◌≤◌, ◌+◌, ℕ, [], ◌∷◌, length}
+use Rattle.nuc_undo.specs.State.{UndoState, settled_of}
 
 -- the same tree with the same past, and no less spare
 pub record Keeps (s t : UndoState) : Type 0 where

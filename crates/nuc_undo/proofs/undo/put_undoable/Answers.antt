@@ -1,6 +1,5 @@
-use Rattle.std.proofs.Common.{sym, subst, ◌∙◌}
+use Rattle.std.proofs.Common.{sym, ◌∙◌}
 use Rattle.nuc_undo.proofs.Undoing.{removes, replaces}
-use Rattle.nuc_undo.specs.Undo.{TakesBack}
 use Rattle.nuc_undo.proofs.undo.put_undoable.Goals as goal
 
 pub returns-in-Some-clause-undo : goal.returns-in-Some-clause-undo

@@ -1,5 +1,4 @@
 use Rattle.std.proofs.Common.{◌≡◌, ◌≤◌, ◌+◌, length}
-use Rattle.nuc_base.specs.Trees.{WellFormed}
 use Rattle.nuc_undo.specs.State.{settled_of}
 use Rattle.nuc_undo.proofs.undo_tree.UndoTree.back.Given as goal
 
