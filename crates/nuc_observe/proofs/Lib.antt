@@ -1,0 +1,5 @@
+mod Maps
+mod Rows
+mod Search
+mod Sorting
+mod Views
