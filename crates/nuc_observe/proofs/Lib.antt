@@ -1,3 +1,5 @@
+mod Bound
+mod Inverse
 mod Maps
 mod Rows
 mod Search

@@ -1,10 +1,11 @@
 -- What a number leads to after a change of the map.
-use Rattle.std.proofs.Common.{◌≡◌, ◌≢◌, ◌⊎◌, ◌==◌, ℕ, ◌+◌, ◌<◌, ◌≤◌, true, false, cond, Option, Some, None, refl, sym, ap, subst, ◌∙◌, inl, inr, arith}
+use Rattle.std.proofs.Common.{◌≡◌, ◌≢◌, ◌⊎◌, ◌==◌, ℕ, ◌+◌, ◌-◌, ◌<◌, ◌≤◌, true, false, cond, Option, Some, None, refl, sym, ap, subst, ◌∙◌, inl, inr, arith}
 use Rattle.std.specs.Prelude.{is_some}
 use Rattle.std.proofs.lemmas.Bool.Decides.{eqb_tells}
 use Rattle.std.specs.Cmp.{unsigned_tied}
-use Rattle.std.specs.FinMap.{get, insert, remove, len, get-insert, get-remove, len-insert, len-remove, same_map, nat_cmp-IsAntisymmetric}
+use Rattle.std.specs.FinMap.{get, insert, remove, len, get-insert, get-remove, len-insert, len-remove, empty_of_len, get-empty, same_map, nat_cmp-IsAntisymmetric}
 use Rattle.std.proofs.lemmas.Cmp.{nat_cmp_total}
+use Rattle.std.specs.Ordering.{nat_cmp}
 use Rattle.nuc_observe.specs.Rows.{Numbers}
 
 pub same_or_not : (x y : ℕ) → (x ≡ y) ⊎ (x ≢ y)
@@ -44,3 +45,17 @@ len_put_new m x n none = len-insert nat_cmp_total m x n ∙ ap (λ o. cond (is_s
 
 pub len_put_over : (m : Numbers) (x n k : ℕ) → get m x ≡ Some k → len (insert m x n) ≡ len m
 len_put_over m x n k some = len-insert nat_cmp_total m x n ∙ ap (λ o. cond (is_some o) (len m) (len m + 1)) some
+
+some_row : (m : Numbers) (x n : ℕ) → get m x ≡ Some n → 0 < len m
+some_row m x n some = elim (same_or_not (len m) 0) [
+  | inl none ↦ absurd (not_both (get m x) n (ap (λ k. get k x) (empty_of_len m none) ∙ get-empty nat_cmp x) some)
+  | inr more ↦ omega (arith, more)
+]
+
+pub len_cut : (m : Numbers) (x n : ℕ) → get m x ≡ Some n → len (remove m x) + 1 ≡ len m
+len_cut m x n some =
+    let fewer : len (remove m x) ≡ len m - 1 = len-remove nat_cmp_total m x ∙ ap (λ o. cond (is_some o) (len m - 1) (len m)) some in
+    omega (arith, fewer, some_row m x n some)
+
+pub len_cut_none : (m : Numbers) (x : ℕ) → get m x ≡ None → len (remove m x) ≡ len m
+len_cut_none m x none = len-remove nat_cmp_total m x ∙ ap (λ o. cond (is_some o) (len m - 1) (len m)) none

@@ -20,26 +20,39 @@ use Rattle.nuc_observe.specs.declared.lookup.Row.{Row}
 abbrev numbers : List Row → List ℕ
 numbers rows = map (λ r. r.from) rows
 
+size : (rows : List Row) → length (numbers rows) ≡ length rows
+size [] = refl
+size (r ∷ rows) = ap suc (size rows)
+
+number_at : (rows : List Row) (i : ℕ) (d : Row) → i < length rows → get_or (numbers rows) i d.from ≡ (get_or rows i d).from
+number_at rows i d lt = get_or-map (λ (r : Row). r.from) rows i d d.from lt
+
+apart_numbers : (rows : List Row) → AreApart rows → AllPairs (λ x y. x ≢ y) (numbers rows)
+apart_numbers rows apart i j x lt within same =
+    let d : Row = record { from = x; to = x } in
+    let long = size rows in
+    let in_j : j < length rows = omega arith in
+    apart i j d lt in_j (sym (number_at rows i d (omega arith)) ∙ same ∙ number_at rows j d in_j)
+
+numbers_apart : (rows : List Row) → AllPairs (λ x y. x ≢ y) (numbers rows) → AreApart rows
+numbers_apart rows apart i j d lt within same =
+    let long = size rows in
+    apart i j d.from lt (omega arith) (number_at rows i d (omega arith) ∙ same ∙ sym (number_at rows j d within))
+
 -- IN ORDER, and no two of a number: they rise
 all_below : (x : ℕ) (rows : List Row) → ((j : ℕ) (d : Row) → j < length rows → x < (get_or rows j d).from) → IsBelow x rows
 all_below x [] h = tt
 all_below x (r ∷ rows) h = (h 0 r (omega arith), all_below x rows (λ j d lt. h (suc j) d (omega arith)))
 
-size : (rows : List Row) → length (numbers rows) ≡ length rows
-size [] = refl
-size (r ∷ rows) = ap suc (size rows)
-
 pub rising : (rows : List Row) → IsNonDecreasingBy (λ r. r.from) rows → AreApart rows → IsRising rows
 rising [] up apart = tt
-rising (r ∷ rows) up apart =
-    let long : length (numbers rows) ≡ length rows = size rows in (
-      all_below r.from rows (λ j d lt.
-          let le = up 0 (suc j) d (omega arith) (omega arith) in
-          let at = get_or-map (λ (s : Row). s.from) rows j d d.from lt in
-          let other : r.from ≢ get_or (numbers rows) j d.from = apart 0 (suc j) d.from (omega arith) (omega (arith, long)) in
-          omega (arith, le, other, at)),
-      rising rows (λ i j d le lt. up (suc i) (suc j) d (omega arith) (omega arith)) (λ i j d lt within. apart (suc i) (suc j) d (omega arith) (omega arith)),
-    )
+rising (r ∷ rows) up apart = (
+  all_below r.from rows (λ j d lt.
+      let le = up 0 (suc j) d (omega arith) (omega arith) in
+      let other = apart 0 (suc j) d (omega arith) (omega arith) in
+      omega (arith, le, other)),
+  rising rows (λ i j d le lt. up (suc i) (suc j) d (omega arith) (omega arith)) (λ i j d lt within. apart (suc i) (suc j) d (omega arith) (omega arith)),
+)
 
 -- ANOTHER ORDER says the same
 same_test : (x y : ℕ) → Decides (eq_by_cmp nat_cmp x y) (x ≡ y)
@@ -60,13 +73,13 @@ find_is q [] = refl
 find_is q (e ∷ es) = ap (cond (eq_by_cmp nat_cmp q e.0) (Some e.1)) (find_is q es)
 
 distinct : (rows : List Row) → AreApart rows → IsDistinct (eq_by_cmp nat_cmp) (keys_of (pairs rows))
-distinct rows apart = subst (IsDistinct (eq_by_cmp nat_cmp)) (sym (keys_are rows)) (IsDistinct-from_AllPairs same_test (numbers rows) apart)
+distinct rows apart = subst (IsDistinct (eq_by_cmp nat_cmp)) (sym (keys_are rows)) (IsDistinct-from_AllPairs same_test (numbers rows) (apart_numbers rows apart))
 
 pub apart_again : (xs ys : List Row) → IsPermutation xs ys → AreApart xs → AreApart ys
 apart_again xs ys moved apart =
-    AllPairs-from_IsDistinct same_test (numbers ys)
+    numbers_apart ys (AllPairs-from_IsDistinct same_test (numbers ys)
     (IsDistinct-IsPermutation (eq_by_cmp nat_cmp) test_laws.symm (numbers xs) (numbers ys) (IsPermutation-map (λ (r : Row). r.from) xs ys moved)
-    (IsDistinct-from_AllPairs same_test (numbers xs) apart))
+    (IsDistinct-from_AllPairs same_test (numbers xs) (apart_numbers xs apart))))
 
 -- what one list says, the other says
 says : (xs ys : List Row) → IsPermutation xs ys → AreApart ys → (q v : ℕ) → lookup (eq_by_cmp nat_cmp q) (pairs xs) ≡ Some v → lookup (eq_by_cmp nat_cmp q) (pairs ys) ≡ Some v

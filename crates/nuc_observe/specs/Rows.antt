@@ -1,6 +1,6 @@
 -- The rows of a look-up.
-use Rattle.std.specs.Prelude.{◌≡◌, ◌≢◌, ◌<◌, ℕ, zero, suc, AllPairs, List, [], ◌∷◌, map}
-use Rattle.std.specs.FinMap.{FinMap, from_entries, from_sorted}
+use Rattle.std.specs.Prelude.{◌≡◌, ◌≢◌, ◌<◌, ℕ, zero, suc, AllPairs, List, [], ◌∷◌, map, Option, None, Some}
+use Rattle.std.specs.FinMap.{FinMap, from_entries, from_sorted, remove}
 use Rattle.std.specs.Ordering.{nat_cmp}
 use Rattle.nuc_observe.specs.declared.lookup.Row.{Row}
 
@@ -21,7 +21,12 @@ numbers_in rows = from_entries (pairs rows)
 
 -- no number has two rows
 abbrev pub AreApart : List Row → Type 0
-AreApart rows = AllPairs (λ x y. x ≢ y) (map (λ r. r.from) rows)
+AreApart rows = AllPairs (λ r s. r.from ≢ s.from) rows
+
+-- the map without this number, where there is one
+abbrev pub without : Numbers → Option ℕ → Numbers
+without m None = m
+without m (Some x) = remove m x
 
 -- x is below the number of each row
 abbrev pub IsBelow : ℕ → List Row → Type 0

@@ -1,6 +1,6 @@
 ghost use Rattle.std.specs.Prelude.{◌≡◌, ◌+◌, ◌<◌, ◌≤◌, length, IsOk, MatchResult, OnOk};
 ghost use Rattle.std.specs.FinMap as map;
-ghost use Rattle.nuc_observe.specs.Rows.{AreApart, IsRising, IsFound, IsGap, numbers_in};
+ghost use Rattle.nuc_observe.specs.Rows.{AreApart, IsRising, IsFound, IsGap, numbers_in, without};
 
 use std::alloc::{AllocError, Global};
 use std::marker::Model;
@@ -114,6 +114,16 @@ impl Lookup {
         match position(&self.rows, from) {
             Ok(at) => Some(self.rows.remove(at).to),
             Err(_) => None,
+        }
+    }
+
+    /// Lets a number lead nowhere, where there is one.
+    pub(crate) fn cut_any(&mut self, from: Option<u64>)
+        ensures numbers { self.new.numbers ≡ without self.old.numbers from }
+        ensures room { self.new.room ≡ self.old.room }
+    {
+        if let Some(from) = from {
+            self.cut(from);
         }
     }
 }
