@@ -43,7 +43,8 @@ impl Pairing {
 
     pub(crate) fn of(alloc: Global, bindings: &[Binding]) -> Result<Pairing, AllocError>
         requires { AreApart bindings.now }
-        ensures { IfOk result (λ pairing. pairing.numbers ≡ key_map bindings.now) }
+        ensures numbers { IfOk result (λ pairing. pairing.numbers ≡ key_map bindings.now) }
+        ensures room { IfOk result (λ pairing. map.len pairing.numbers ≤ pairing.room) }
     {
         Ok(Pairing {
             by_id: Lookup::of(rows_by_id(alloc, bindings)?),

@@ -1,0 +1,5 @@
+use Rattle.nuc_observe.proofs.Undoing.{kept_if_absent}
+use Rattle.nuc_observe.proofs.keys.Keys.cut.Goals as goal
+
+pub returns-clause-absent : goal.returns-clause-absent
+returns-clause-absent c = kept_if_absent c.change.result _ _ c.args.id.0 c.change.ensures.now c.change.ensures.err_now
