@@ -7,7 +7,7 @@ use Rattle.std.specs.FinMap.{get, insert, remove, len, empty, get-empty, len-emp
 use Rattle.std.specs.Ordering.{nat_cmp}
 use Rattle.nuc_folder.specs.declared.item.Key.{Key}
 use Rattle.nuc_base.specs.declared.node.NodeId.{NodeId}
-use Rattle.nuc_observe.specs.Keys.{AreKeys, IsFree, KeyMap, with_key}
+use Rattle.nuc_observe.specs.Keys.{AreKeys, HasAlone, IsFree, IsUnheld, KeyMap, with_key}
 use Rattle.nuc_observe.specs.Lookup.{LookupState}
 use Rattle.nuc_observe.specs.State.{IsKept, first_or, spare_of}
 use Rattle.nuc_observe.specs.Undo.{first_of, past_of, undone}
@@ -80,6 +80,12 @@ cut_absent m x none = same_numbers _ m (λ y. elim (same_or_not y x) [
 pub kept_if_absent : (r : Result (Unit {0}) AllocError) (m k : KeyMap) (x : ℕ) → OnOk r (k ≡ remove m x) → OnErr r (k ≡ m) → get m x ≡ None → k ≡ m
 kept_if_absent (Ok done) m k x ok err none = ok ∙ cut_absent m x none
 kept_if_absent (Err e) m k x ok err none = err
+
+pub freed : (r : Result (Unit {0}) AllocError) (m n : KeyMap) (x k : ℕ) → OnOk r (n ≡ remove m x) → HasAlone m x k → OnOk r (IsUnheld n k)
+freed (Ok done) m n x k ok alone y at =
+    let cut = ap (λ l. get l y) (sym ok) ∙ at in
+    not_both (get (remove m x) x) k (get_cut_same m x) (subst (λ z. get (remove m x) z ≡ Some k) (alone.1 y (at_cut m x y k cut)) cut)
+freed (Err e) m n x k ok alone = tt
 
 -- it adds a row at most, and takes one at most
 pub one_more : (m : KeyMap) (x : ℕ) (key : Option Key) → len (with_key m x key) ≤ len m + 1

@@ -1,6 +1,6 @@
-ghost use Rattle.std.specs.Prelude.{◌≡◌, ◌+◌, ◌<◌, ◌≤◌, ◌↔◌, [], ◌∷◌, ◌++◌, List, None, option_map, IfOk, IfSome, IsOk, IsTrue, MatchOption, OnOk, OnErr};
+ghost use Rattle.std.specs.Prelude.{◌≡◌, ◌+◌, ◌<◌, ◌≤◌, ◌↔◌, [], ◌∷◌, ◌++◌, List, None, ℕ, All, option_map, IfOk, IfSome, IsOk, IsTrue, MatchOption, OnOk, OnErr};
 ghost use Rattle.std.specs.FinMap as map;
-ghost use Rattle.nuc_observe.specs.Keys.{AreBindings, HasAlone, IsFree, IsUnheld, KeyMap, key_map, with_key};
+ghost use Rattle.nuc_observe.specs.Keys.{AreBindings, AreKeys, HasAlone, IsFree, IsUnheld, KeyMap, key_map, with_key};
 
 use crate::Binding;
 use crate::pairing::Pairing;
@@ -131,6 +131,7 @@ impl Keys {
     pub fn cut(&mut self, id: NodeId) -> Result<(), AllocError>
         ensures now { OnOk result (self.new.now ≡ map.remove self.old.now id.0) }
         ensures absent { map.get self.old.now id.0 ≡ None → self.new.now ≡ self.old.now }
+        ensures freed { (k : ℕ) → HasAlone self.old.now id.0 k → OnOk result (IsUnheld self.new.now k) }
         ensures past { OnOk result (self.new.past ≡ self.old.past ++ self.old.now ∷ []) }
         ensures settled { settled_of self.new ≡ settled_of self.old }
         ensures err_now { OnErr result (self.new.now ≡ self.old.now) }
@@ -190,4 +191,13 @@ impl Keys {
             self.undo_last();
         }
     }
+}
+
+/// No two identities have the same key, nor had they before any change since the last `settle`; the root has none, and
+/// none has the folder's own.
+pub fn keys_are_one_to_one(keys: &Keys)
+    ensures now { AreKeys keys.now.now }
+    ensures past { All AreKeys keys.now.past }
+{
+    let _kept = &keys.pairing;
 }

@@ -10,4 +10,4 @@ mod tests;
 mod undo;
 
 pub use binding::Binding;
-pub use keys::Keys;
+pub use keys::{Keys, keys_are_one_to_one};
