@@ -1,11 +1,11 @@
 -- The two look-ups of bindings that are apart.
-use Rattle.std.proofs.Common.{◌≡◌, ◌≢◌, ◌<◌, ℕ, zero, suc, Option, None, Some, List, [], ◌∷◌, map, length, refl, sym, ap, subst, ◌∙◌, inl, inr, arith, get_or, All, AllPairs}
+use Rattle.std.proofs.Common.{◌≡◌, ◌≢◌, ◌<◌, ℕ, suc, None, Some, List, [], ◌∷◌, map, length, refl, sym, ap, subst, ◌∙◌, inl, inr, arith, get_or, All, AllPairs}
 use Rattle.std.proofs.lemmas.List.{get_or-map}
 use Rattle.std.proofs.lemmas.List.Elements.{All-tail}
-use Rattle.std.specs.FinMap.{get, insert, empty, from_entries, get-empty}
+use Rattle.std.specs.FinMap.{get, insert, from_entries, get-empty}
 use Rattle.std.specs.Ordering.{nat_cmp}
 use Rattle.nuc_observe.specs.Rows.{AreApart as RowsApart, numbers_in, pairs, without}
-use Rattle.nuc_observe.specs.Keys.{AreApart, AreBindings, AreKeys, IsFree, key_map, row_by_id, row_by_key}
+use Rattle.nuc_observe.specs.Keys.{AreApart, AreBindings, AreKeys, key_map, row_by_id, row_by_key}
 use Rattle.nuc_observe.specs.Pairing.{AreInverse}
 use Rattle.nuc_observe.specs.declared.binding.Binding.{Binding}
 use Rattle.nuc_observe.specs.declared.lookup.Row.{Row}

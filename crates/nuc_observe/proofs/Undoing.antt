@@ -1,12 +1,11 @@
 -- How changes of keys are noted, and taken back one after the other.
-use Rattle.std.proofs.Common.{◌≡◌, ◌≢◌, ◌⊎◌, ◌<◌, ◌≤◌, ◌+◌, ◌-◌, ℕ, zero, suc, List, [], ◌∷◌, ◌++◌, length, All, Option, None, Some, IfSome, Result, Ok, Err, OnOk, OnErr, refl, sym, ◌∙◌, ap, subst, inl, inr, arith, length-append}
+use Rattle.std.proofs.Common.{◌≡◌, ◌≢◌, ◌⊎◌, ◌<◌, ◌≤◌, ◌+◌, ℕ, suc, List, [], ◌∷◌, ◌++◌, length, All, Option, None, Some, IfSome, Result, Ok, Err, OnOk, OnErr, refl, sym, ◌∙◌, ap, subst, inl, inr, arith, length-append}
 use Rattle.std.proofs.lemmas.List.Elements.{All-append, All-cons, All-nil, All-tail}
 use Rattle.std.specs.Option.{option_map}
 use Rattle.std.specs.declared.alloc.AllocError.{AllocError}
 use Rattle.std.specs.FinMap.{get, insert, remove, len, empty, get-empty, len-empty}
 use Rattle.std.specs.Ordering.{nat_cmp}
 use Rattle.nuc_folder.specs.declared.item.Key.{Key}
-use Rattle.nuc_base.specs.declared.node.NodeId.{NodeId}
 use Rattle.nuc_observe.specs.Keys.{AreKeys, HasAlone, IsFree, IsUnheld, KeyMap, with_key}
 use Rattle.nuc_observe.specs.Lookup.{LookupState}
 use Rattle.nuc_observe.specs.State.{IsKept, first_or, spare_of}
@@ -82,8 +81,8 @@ kept_if_absent (Ok done) m k x ok err none = ok ∙ cut_absent m x none
 kept_if_absent (Err e) m k x ok err none = err
 
 pub freed : (r : Result (Unit {0}) AllocError) (m n : KeyMap) (x k : ℕ) → OnOk r (n ≡ remove m x) → HasAlone m x k → OnOk r (IsUnheld n k)
-freed (Ok done) m n x k ok alone y at =
-    let cut = ap (λ l. get l y) (sym ok) ∙ at in
+freed (Ok done) m n x k ok alone = λ y at.
+    let cut : get (remove m x) y ≡ Some k = ap (λ l. get l y) (sym ok) ∙ at in
     not_both (get (remove m x) x) k (get_cut_same m x) (subst (λ z. get (remove m x) z ≡ Some k) (alone.1 y (at_cut m x y k cut)) cut)
 freed (Err e) m n x k ok alone = tt
 

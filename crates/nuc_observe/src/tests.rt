@@ -47,28 +47,25 @@ fn take(rt: &impl Abort, keys: &mut Keys, step: Step) -> Result<(), Fail> {
 
 /// The identities 1, 2 and 3 have these keys, 0 for none, and nobody has another of the keys 7, 8 and 9.
 fn assert_keys(rt: &impl Abort, keys: &Keys, want: [u64; 3], step: Step) {
-    let mut id = 0;
-    let mut count = 0;
-    for key in want {
-        id += 1;
-        let has = keys.key_of(NodeId(id));
-        if key == 0 {
+    for (id, key) in [1, 2, 3].iter().zip(&want) {
+        let has = keys.key_of(NodeId(*id));
+        if *key == 0 {
             assert_eq!(rt; has, None, "after {step:?}");
         } else {
-            count += 1;
-            assert_eq!(rt; has, Some(Key(key)), "after {step:?}");
-            assert_eq!(rt; keys.id_of(Key(key)), Some(NodeId(id)), "after {step:?}");
+            assert_eq!(rt; has, Some(Key(*key)), "after {step:?}");
+            assert_eq!(rt; keys.id_of(Key(*key)), Some(NodeId(*id)), "after {step:?}");
         }
     }
     for key in [7, 8, 9] {
-        let held = want.iter().any(|of| *of == key);
+        let held = want.contains(&key);
         assert_eq!(rt;
             keys.id_of(Key(key)).is_some(),
             held,
             "key {key} after {step:?}"
         );
     }
-    assert_eq!(rt; keys.len(), count);
+    let count = want.iter().filter(|key| **key > 0).count();
+    assert_eq!(rt; keys.len(), count as u64);
 }
 
 #[test]

@@ -1,7 +1,5 @@
-use Rattle.std.proofs.Common.{◌≡◌, ◌+◌, ◌∙◌, refl, sym, ap, arith, length, length-append, ◌∷◌, []}
-use Rattle.nuc_observe.specs.Keys.{KeyMap}
-use Rattle.nuc_observe.specs.State.{first_or}
-use Rattle.nuc_observe.proofs.Undoing.{empty_of_length, ended, length_past}
+use Rattle.std.proofs.Common.{◌∙◌, refl, ap, arith, length, length-append, ◌∷◌, []}
+use Rattle.nuc_observe.proofs.Undoing.{ended, length_past}
 use Rattle.nuc_observe.proofs.keys.Keys.back.Goals as goal
 
 pub loop-init : goal.loop-init

@@ -1,4 +1,4 @@
-use Rattle.std.proofs.Common.{◌≡◌, ◌≤◌, ◌+◌, ap, ◌∙◌, sym, arith, subst, length, ◌++◌, ◌∷◌, [], IfSome}
+use Rattle.std.proofs.Common.{ap, ◌∙◌, sym, arith, subst, ◌++◌, ◌∷◌, [], IfSome}
 use Rattle.nuc_observe.specs.Keys.{AreKeys, IsFree, KeyMap}
 use Rattle.nuc_observe.specs.State.{first_or}
 use Rattle.nuc_observe.specs.declared.undo.Undo.{Undo}

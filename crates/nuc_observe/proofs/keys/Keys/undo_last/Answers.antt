@@ -1,5 +1,4 @@
-use Rattle.std.proofs.Common.{◌≡◌, ◌≤◌, ◌+◌, ap, ◌∙◌, sym, arith, subst, length, ◌∷◌, [], length-append, vec_capacity}
-use Rattle.nuc_observe.specs.Keys.{AreKeys, KeyMap}
+use Rattle.std.proofs.Common.{ap, ◌∙◌, sym, arith, length, ◌∷◌, [], length-append, vec_capacity}
 use Rattle.nuc_observe.specs.State.{first_or}
 use Rattle.nuc_observe.specs.Undo.{past_of, undone}
 use Rattle.nuc_observe.proofs.Undoing.{first_is, leads_back, same_ends, spare_rises}
@@ -21,7 +20,8 @@ invariant_of-self c =
 pub returns-in-Some-clause-last : goal.returns-in-Some-clause-last
 returns-in-Some-clause-last c before older is =
     let back = leads_back c.self.inside.pairing c.self.inside.undos.items c.pop.new.self.items c.self.inside.settled_len c.in-Some.field-0 c.self.invariant c.in-Some.ensures.items in
-    let ends = same_ends _ _ _ _ (sym back.past ∙ ap (λ s. s.past) c.self.view_is ∙ is) in
+    let m = undone c.self.inside.pairing.numbers c.in-Some.field-0 in
+    let ends = same_ends (past_of m c.pop.new.self.items) older m before (sym back.past ∙ ap (λ s. s.past) c.self.view_is ∙ is) in
     let long = ap length c.in-Some.ensures.items ∙ length-append c.pop.new.self.items (c.in-Some.field-0 ∷ []) in
     let kept = c.set.ensures.room in
     let cap = c.pop.ensures.capacity in

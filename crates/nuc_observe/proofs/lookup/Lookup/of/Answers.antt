@@ -1,6 +1,5 @@
 use Rattle.std.proofs.Common.{rules, refl, arith}
 use Rattle.std.proofs.lemmas.List.Sorted.{IsNonDecreasingBy-from_sort_by_key}
-use Rattle.std.specs.List.Sorted.{IsNonDecreasingBy}
 use Rattle.nuc_observe.specs.Rows.{IsRising}
 use Rattle.nuc_observe.proofs.Sorting.{apart_again, rising}
 use Rattle.nuc_observe.proofs.Views.{len_is, sorted_is}
