@@ -1,0 +1,13 @@
+//! What a client has observed of its folder: which folder key each identity of Local has.
+#![tactic(auto)]
+
+mod binding;
+mod keys;
+mod lookup;
+mod pairing;
+#[cfg(test)]
+mod tests;
+mod undo;
+
+pub use binding::Binding;
+pub use keys::{Keys, keys_are_one_to_one};
