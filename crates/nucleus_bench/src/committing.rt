@@ -1,4 +1,4 @@
-ghost use Rattle.std.specs.Prelude.{};
+ghost use Rattle.std.specs.Prelude.{◌<◌, IfOk};
 ghost use Rattle.nuc_base.specs.Kinds.{FitsKind};
 ghost use Rattle.nucleus_bench.specs.Service.{IsReady};
 
@@ -82,7 +82,11 @@ impl Service {
     }
 
     /// Records that the next identity gets this content.
-    fn record(&mut self, content: Content) -> Result<Ver, AllocError> {
+    fn record(&mut self, content: Content) -> Result<Ver, AllocError>
+        requires { IsReady self.old }
+        ensures ready { IsReady self.new }
+        ensures version { IfOk result (λ ver. 0 < ver.0) }
+    {
         let id = NodeId(self.ids.next_id);
         self.edits
             .enter(&mut self.ids, id, Ver(0), EditKind::Put(content))
@@ -113,7 +117,10 @@ impl Service {
         Ok(())
     }
 
-    fn settle(&mut self) {
+    fn settle(&mut self)
+        requires { IsReady self.old }
+        ensures { IsReady self.new }
+    {
         self.server.settle();
         self.store.settle();
         self.edits.settle();

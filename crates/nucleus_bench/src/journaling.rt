@@ -10,14 +10,18 @@ use std::alloc::{AllocError, Global};
 /// revision.
 pub(crate) fn journal(alloc: Global, count: u64) -> Result<String, Fault> {
     let mut journal = Journal::new(alloc);
+    push_all(alloc, &mut journal, count)?;
+    told(alloc, &journal)
+}
+
+fn push_all(alloc: Global, journal: &mut Journal, count: u64) -> Result<(), Fault>
+    requires { IsChain journal.old.now }
+{
     for _ in 0..count {
-        push(alloc, &mut journal)?;
+        push(alloc, journal)?;
         journal.settle();
     }
-    let hash = pages::read(alloc, &journal)?;
-    let last = journal.last();
-    let current = count_current(&journal);
-    Ok(format!(in alloc; "journal {last} entries {current} current {hash}")?)
+    Ok(())
 }
 
 fn push(alloc: Global, journal: &mut Journal) -> Result<(), Fault>
@@ -43,6 +47,13 @@ fn push(alloc: Global, journal: &mut Journal) -> Result<(), Fault>
         by: 1,
     })?;
     Ok(())
+}
+
+fn told(alloc: Global, journal: &Journal) -> Result<String, Fault> {
+    let last = journal.last();
+    let current = count_current(journal);
+    let hash = pages::read(alloc, journal)?;
+    Ok(format!(in alloc; "journal {last} entries {current} current {hash}")?)
 }
 
 /// How many identities stand.

@@ -11,12 +11,16 @@ const PIECE: usize = 64;
 pub(crate) fn store(alloc: Global, count: u64) -> Result<String, Fault> {
     let mut store = Store::new(alloc);
     let list = put_all(alloc, &mut store, count)?;
+    told(alloc, &store, &list)
+}
+
+fn told(alloc: Global, store: &Store, list: &[Digest]) -> Result<String, Fault> {
     let found = list
         .iter()
         .filter(|digest| store.get(digest).is_some())
         .count();
-    let missing = count_missing(alloc, &store, &list)?;
-    let hash = assemble(alloc, &store, &list)?;
+    let missing = count_missing(alloc, store, list)?;
+    let hash = assemble(alloc, store, list)?;
     Ok(format!(in alloc; "store {found} found {missing} missing {hash}")?)
 }
 
