@@ -1,5 +1,5 @@
 -- One more folder in the last one.
-use Rattle.std.proofs.Common.{◌≡◌, ◌≢◌, ◌+◌, ◌<◌, ◌==◌, ℕ, true, false, cond, List, [], ◌∷◌, ◌++◌, length, Option, Some, None, IfSome, refl, sym, ◌∙◌, ap, subst, inl, inr, arith, length-append, tt}
+use Rattle.std.proofs.Common.{◌≡◌, ◌≢◌, ◌+◌, ◌<◌, ◌==◌, ℕ, true, false, cond, List, [], ◌∷◌, ◌++◌, length, Option, Some, None, IfSome, refl, sym, ◌∙◌, ap, subst, inl, inr, arith, length-append}
 use Rattle.std.proofs.lemmas.Bool.Decides.{eqb_tells}
 use Rattle.std.specs.FinMap.{get, insert, empty, get-empty}
 use Rattle.std.specs.Ordering.{nat_cmp}
@@ -42,12 +42,15 @@ module _ (es : List Entry) (rev : ℕ) (n : Node) (chain : IsChain es) (is_rev :
     rev = is_rev;
     id = omega (arith, is_rev);
     kind = subst (HadKind es rev) (sym kind) (chain.kinds rev);
-    legal = (fits, record {
-      kind = λ k e. absurd (not_both (tree_of es) rev k gone e);
-      parent = in_last;
-      free = λ y k e same. omega (arith, chain.parents y k e, same.parent, parent, is_rev);
-      no_cycle = under_absent (tree_of es) rev n.place.parent.0 (form_of es chain.journal) (omega (arith, is_rev)) in_last gone;
-    });
+    legal = (
+      fits,
+      record {
+        kind = λ k e. absurd (not_both (tree_of es) rev k gone e);
+        parent = in_last;
+        free = λ y k e same. omega (arith, chain.parents y k e, same.parent, parent, is_rev);
+        no_cycle = under_absent (tree_of es) rev n.place.parent.0 (form_of es chain.journal) (omega (arith, is_rev)) in_last gone;
+      },
+    );
   }
 
   tree_after_it : tree_of (es ++ next_folder rev n ∷ []) ≡ insert (tree_of es) rev n

@@ -8,5 +8,5 @@ abbrev pub AllPut : ℕ → List Edit → Type 0
 AllPut next edits = (v : ℕ) → 0 < v → v < next → WasPut edits v
 
 pub record IsFull (next : ℕ) (edits : List Edit) : Type 0 where
-  pub next : IsNext next edits
+  pub version : IsNext next edits
   pub put : AllPut next edits

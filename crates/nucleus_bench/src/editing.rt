@@ -21,9 +21,7 @@ pub(crate) fn edits(alloc: Global, count: u64) -> Result<String, Fault> {
 
 fn told(alloc: Global, edits: &Edits, count: u64) -> Result<String, Fault> {
     let based = (1..=count).filter(|ver| edits.based(Ver(*ver))).count();
-    let adopted = (1..=count)
-        .filter(|ver| edits.adopted(Ver(*ver)))
-        .count();
+    let adopted = (1..=count).filter(|ver| edits.adopted(Ver(*ver))).count();
     let hash = hash_contents(alloc, edits, count)?;
     Ok(format!(in alloc; "edits {based} based {adopted} adopted {hash}")?)
 }
