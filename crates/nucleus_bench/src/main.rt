@@ -2,14 +2,22 @@
 //! work came to, and no time.
 #![tactic(auto)]
 
+mod committing;
+mod editing;
 mod fault;
 mod hashing;
+mod journaling;
+mod layout;
+mod pages;
+mod placing;
 mod storing;
+mod work;
 
 use fault::Fault;
 use std::alloc::Global;
 use std::process::ExitCode;
 use std::rt::Env;
+use work::{Work, count_of};
 
 fn main(rt: HostRuntime) -> ExitCode {
     let printed = match answer(&rt, rt.alloc()) {
@@ -37,19 +45,16 @@ fn answer(rt: &(impl Env + AllocGlobal), alloc: Global) -> Result<String, Fault>
 fn run(alloc: Global, words: &[String]) -> Result<String, Fault> {
     match words {
         [] => small(alloc),
-        [command, count] => count_by(alloc, command.as_str(), number(count)?),
+        [work, count] => count_by(alloc, work.as_str(), count.as_str()),
         [command, size, piece] => hash_by(alloc, command.as_str(), number(size)?, number(piece)?),
         _ => Err(Fault::Usage),
     }
 }
 
-fn count_by(alloc: Global, command: &str, count: u64) -> Result<String, Fault> {
-    match command {
-        "store" => {
-            let bytes = storing::store(alloc, count)?;
-            Ok(format!(in alloc; "{bytes}")?)
-        }
-        _ => Err(Fault::Usage),
+fn count_by(alloc: Global, work: &str, count: &str) -> Result<String, Fault> {
+    match Work::named(work) {
+        Some(work) => work.run(alloc, count_of(count)?),
+        None => Err(Fault::Usage),
     }
 }
 
@@ -72,6 +77,11 @@ fn number(word: &String) -> Result<u64, Fault> {
 fn small(alloc: Global) -> Result<String, Fault> {
     let hash = hashing::hash(alloc, 1_000, 300)?;
     let sha2 = hashing::sha2(alloc, 1_000, 300)?;
-    let store = storing::store(alloc, 3)?;
-    Ok(format!(in alloc; "hash {hash}\nsha2 {sha2}\nstore {store}")?)
+    let mut text = format!(in alloc; "hash {hash}\nsha2 {sha2}")?;
+    for work in Work::ALL {
+        let line = work.run(alloc, 70)?;
+        text.push_str("\n")?;
+        text.push_str(line.as_str())?;
+    }
+    Ok(text)
 }
