@@ -1,4 +1,5 @@
 pub mod Folder
 pub mod Formed
 pub mod Listing
+pub mod Outcome
 pub mod Write

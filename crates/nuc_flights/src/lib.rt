@@ -1,0 +1,9 @@
+//! The operations that are in flight, each with how far it has come, and what they were when they were last settled.
+#![tactic(auto)]
+
+mod flights;
+mod slot;
+#[cfg(test)]
+mod tests;
+
+pub use flights::Flights;

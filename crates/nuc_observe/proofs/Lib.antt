@@ -1,0 +1,7 @@
+mod Bound
+mod Inverse
+mod Maps
+mod Rows
+mod Search
+mod Sorting
+mod Views

@@ -1,0 +1,18 @@
+use Rattle.std.proofs.Common.{rules, refl}
+use Rattle.std.proofs.lemmas.List.Sorted.{IsNonDecreasingBy-from_sort_by_key}
+use Rattle.std.specs.List.Sorted.{IsNonDecreasingBy}
+use Rattle.nuc_observe.specs.Rows.{IsRising}
+use Rattle.nuc_observe.proofs.Sorting.{apart_again, rising}
+use Rattle.nuc_observe.proofs.Views.{sorted_is}
+use Rattle.nuc_observe.proofs.lookup.Lookup.of.Goals as goal
+
+risen : (c : goal.After-sort_unstable_by_key) → IsRising c.sort_unstable_by_key.new.self.items
+risen c =
+    let facts = c.sort_unstable_by_key.ensures in
+    rising _ (IsNonDecreasingBy-from_sort_by_key (λ row. row.from) _ facts.sorted (λ a r g called. search rules)) (apart_again _ _ facts.permutation c.requires)
+
+pub invariant_of-result : goal.invariant_of-result
+invariant_of-result c = risen c
+
+pub returns : goal.returns
+returns c = sorted_is _ _ c.sort_unstable_by_key.ensures.permutation c.requires (risen c)
