@@ -1,9 +1,11 @@
-//! The operations that are in flight, each with how far it has come, and what they were when they were last settled.
+//! The operations in flight, each with how far it has come, and what they were when they were last settled.
 #![tactic(auto)]
 
 mod flights;
+mod landing;
 mod slot;
 #[cfg(test)]
 mod tests;
 
 pub use flights::Flights;
+pub use landing::{Landing, Taken};

@@ -1,11 +1,10 @@
-ghost use Rattle.std.specs.Prelude.{◌≡◌};
-
+use crate::Landing;
 use nuc_class::Op;
 
 /// How far an operation has come.
 #[derive(Clone, Copy, Debug, PartialEq, Eq)]
 pub enum Level {
-    /// It isn't in flight: it isn't planned yet, or it is done.
+    /// It isn't in flight: not planned yet, or done.
     Away,
     Planned,
     Started,
@@ -14,11 +13,11 @@ pub enum Level {
 
 /// An operation that is in flight, or was when the flights were last settled.
 #[derive(Debug, Drop)]
-pub struct Slot<R> {
+pub struct Slot {
     pub op: Op,
     pub now: Level,
     /// How far it had come when the flights were last settled.
     pub was: Level,
-    /// What its outside change came to, once it was taken.
-    pub outcome: Option<R>,
+    /// What came of its outside change, from when it is taken.
+    pub landing: Option<Landing>,
 }

@@ -1,0 +1,47 @@
+-- How the flights are kept: a slot for each, in which it stays until the next settling though it is done.
+use Rattle.std.specs.Prelude.{◌≡◌, List, map, Option, None, Some}
+use Rattle.std.specs.List.{filter_map}
+use Rattle.nuc_class.specs.declared.op.Op.{Op}
+use Rattle.nuc_flights.specs.Flights.{Flight, Stage, planned, started, taken}
+use Rattle.nuc_flights.specs.declared.landing.Landing.{Landing}
+use Rattle.nuc_flights.specs.declared.slot.Level.{Level}
+use Rattle.nuc_flights.specs.declared.slot.Level.TheVariants as level
+use Rattle.nuc_flights.specs.declared.slot.Slot.{Slot}
+
+-- the stage at a level, none where the operation isn't in flight
+abbrev pub stage_at : Level → Option Landing → Option Stage
+stage_at level.Away landing = None
+stage_at level.Planned landing = Some planned
+stage_at level.Started landing = Some started
+stage_at level.Taken (Some landing) = Some (taken landing)
+stage_at level.Taken None = None
+
+abbrev pub flight_at : Op → Option Stage → Option Flight
+flight_at op None = None
+flight_at op (Some stage) = Some (record { op = op; stage = stage })
+
+abbrev pub flight_now : Slot → Option Flight
+flight_now s = flight_at s.op (stage_at s.now s.landing)
+
+abbrev pub flight_was : Slot → Option Flight
+flight_was s = flight_at s.op (stage_at s.was s.landing)
+
+abbrev pub flights_now : List Slot → List Flight
+flights_now slots = filter_map flight_now slots
+
+abbrev pub flights_were : List Slot → List Flight
+flights_were slots = filter_map flight_was slots
+
+-- a level that was reached before the operation was taken
+abbrev pub IsEarly : Level → Type 0
+IsEarly level.Away = Unit {0}
+IsEarly level.Planned = Unit {0}
+IsEarly level.Started = Unit {0}
+IsEarly level.Taken = ⊥
+
+-- where it hasn't come to be taken now, it hadn't then; and with what came of it, if it was
+abbrev pub IsSound : Level → Level → Option Landing → Type 0
+IsSound level.Planned was landing = IsEarly was
+IsSound level.Started was landing = IsEarly was
+IsSound level.Away was landing = Unit {0}
+IsSound level.Taken was landing = (l : Landing) × (landing ≡ Some l)
