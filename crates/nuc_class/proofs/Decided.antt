@@ -1,14 +1,14 @@
 -- In a well formed tree it can be told what goes.
-use Rattle.std.proofs.Common.{◌≡◌, ◌<◌, ◌+◌, ◌-◌, ℕ, zero, suc, Option, None, Some, sym, subst, ◌⊎◌, ◌∙◌, inl, inr, arith}
+use Rattle.std.proofs.Common.{◌≡◌, ◌+◌, ℕ, zero, suc, Option, None, Some, sym, subst, ◌⊎◌, ◌∙◌, inl, inr, arith}
 use Rattle.std.specs.List.{slice_get}
 use Rattle.std.specs.FinMap.{get, len}
-use Rattle.std.proofs.lemmas.Option.{slice_get_cases, slice_get_past}
+use Rattle.std.proofs.lemmas.Option.{slice_get_cases}
 use Rattle.nuc_base.specs.Trees.{Nodes, WellFormed, children}
 use Rattle.nuc_base.specs.declared.node.Node.{Node}
 use Rattle.nuc_base.proofs.Children.{child_there, children_bound}
 use Rattle.nuc_class.specs.Going.{IsKept, Going, Leaves, Stays, GoingLocal, GoingRemote}
 use Rattle.nuc_class.proofs.Tells.{place_or_not, value_or_not}
-use Rattle.nuc_class.proofs.Walk.{kept_stands, going-kept, going-child, GoBefore, going_of_children, go_more, HasRoom, some_left, room_below}
+use Rattle.nuc_class.proofs.Walk.{kept_parts, going-kept, going-child, GoBefore, going_of_children, go_more, HasRoom, some_left, room_below}
 
 pub kept_or_not : (other own s : Option Node) → IsKept other own s ⊎ ¬ (IsKept other own s)
 kept_or_not None (Some n) (Some k) = elim (value_or_not (Some n) (Some k)) [
@@ -83,7 +83,7 @@ module _ (other own s : Nodes) (Spared : ℕ → Type 0) (tell : (y : ℕ) → S
 
   pub going_or_not : (x : ℕ) → Goes x ⊎ ¬ (Goes x)
   going_or_not x = elim (kept_or_not (get other x) (get own x) (get s x)) [
-    | inl kept ↦ let node = kept_stands _ _ _ kept in going_or_not_within (len own) x node.0 node.1 (λ k some steps. omega (arith, some)) kept
+    | inl kept ↦ let node = kept_parts _ _ _ kept in going_or_not_within (len own) x node.1 node.2 (λ k some steps. omega (arith, some)) kept
     | inr not_kept ↦ inr (λ goes. not_kept (going-kept other own s Spared x goes))
   ]
 

@@ -3,7 +3,6 @@ use Rattle.std.proofs.Common.{◌≡◌, ◌==◌, ℕ, Bool, true, false, cond,
 use Rattle.std.proofs.lemmas.Option.{none-some, same_Some}
 use Rattle.std.specs.FinMap.{get}
 use Rattle.std.specs.Bool.{beq}
-use Rattle.nuc_base.specs.Changes.{FitsChange}
 use Rattle.nuc_base.specs.Kinds.{Fits, FitsKind}
 use Rattle.nuc_base.specs.declared.node.Kind.{Kind}
 use Rattle.nuc_base.specs.declared.node.Kind.TheVariants.{Folder, File}

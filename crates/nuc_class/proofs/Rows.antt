@@ -5,7 +5,7 @@ use Rattle.std.proofs.lemmas.Bool.{cases_Bool}
 use Rattle.std.proofs.lemmas.Option.{none-some, same_Some}
 use Rattle.nuc_base.specs.Trees.{Nodes}
 use Rattle.nuc_base.specs.declared.node.Node.{Node}
-use Rattle.nuc_class.specs.Due.{IsDue, IsLegalOp, NothingDue}
+use Rattle.nuc_class.specs.Due.{IsLegalOp, NothingDue}
 use Rattle.nuc_class.specs.Laws.{OneWish, SomeWish, NothingWhereEqual, WishHasOperation, DownKeepsEdits}
 use Rattle.nuc_class.specs.Op.{operation}
 use Rattle.nuc_class.specs.Split.{needs_split}

@@ -1,5 +1,5 @@
 -- Going, seen from the children at their positions, and how far a walk down a tree can lead.
-use Rattle.std.proofs.Common.{◌≡◌, ◌≢◌, ◌<◌, ◌≤◌, ◌+◌, ◌-◌, ℕ, suc, List, length, Option, None, Some, sym, ap, subst, ◌∙◌, inl, inr, arith, refl}
+use Rattle.std.proofs.Common.{◌≡◌, ◌≢◌, ◌<◌, ◌≤◌, ◌+◌, ◌-◌, ℕ, List, length, Option, None, Some, sym, ap, subst, ◌∙◌, inl, inr, arith, refl}
 use Rattle.std.specs.List.{slice_get}
 use Rattle.std.specs.FinMap.{get, len}
 use Rattle.std.proofs.lemmas.Option.{same_Some, slice_get_cases}
@@ -12,11 +12,11 @@ use Rattle.nuc_base.proofs.Maps.{not_both, same_or_not}
 use Rattle.nuc_class.specs.Going.{Going, IsKept}
 use Rattle.nuc_class.specs.Going.Going.{going}
 
-pub kept_stands : (other own s : Option Node) → IsKept other own s → (n : Node) × (own ≡ Some n)
-kept_stands None (Some n) (Some s) e = (n, refl)
-kept_stands None (Some n) None e = absurd e
-kept_stands None None s e = absurd e
-kept_stands (Some o) own s e = absurd e
+pub kept_parts : (other own s : Option Node) → IsKept other own s → (other ≡ None) × (n : Node) × (own ≡ Some n) × (s ≡ Some n)
+kept_parts None (Some n) (Some s) e = (refl, n, refl, ap Some (sym e))
+kept_parts None (Some n) None e = absurd e
+kept_parts None None s e = absurd e
+kept_parts (Some o) own s e = absurd e
 
 -- no position from i on has an element
 pub at_end : (xs : List ℕ) (i : ℕ) → slice_get xs i ≡ None → length xs ≤ i

@@ -1,4 +1,4 @@
--- Where an operation is carried out, and what it leaves of Local's version.
+-- Where an operation is carried out, and when it adopts a version.
 use Rattle.std.specs.Prelude.{◌==◌, ◌&&◌, not, ℕ, Bool, true, false, Option, None, Some, if◌then◌else◌}
 use Rattle.std.specs.Bool.{beq}
 use Rattle.nuc_base.specs.declared.change.Change.{Change}
@@ -21,7 +21,7 @@ is_shown same (Some l) (Put n) = not (looks_same same l n)
 is_shown same None Cut = false
 is_shown same (Some l) Cut = true
 
--- a commit where Remote is written, else a work on the disk where the change of Local shows, else nothing
+-- at the server where Remote is written, else on the disk where the change of Local shows there, else nowhere
 abbrev pub effect_of : (ℕ → ℕ → Bool) → Option Node → Change → Change → Effect
 effect_of same l local Keep = if is_shown same l local then Disk else Nothing
 effect_of same l local (Put n) = Commit

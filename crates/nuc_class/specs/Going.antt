@@ -12,8 +12,8 @@ IsKept None (Some own) None = ⊥
 IsKept None None s = ⊥
 IsKept (Some other) own s = ⊥
 
--- x is kept, and so is all that stands below it, but what is spared and what stands below that. The least such fact:
--- it has no other ground than these
+-- x is kept, and each of its children is spared or goes too. It is the least such fact: nothing goes on a ground that
+-- leads back to itself
 pub data Going (other own s : Nodes) (Spared : ℕ → Type 0) : ℕ → Type 0 where
   going : (x : ℕ) → IsKept (get other x) (get own x) (get s x)
       → ((y : ℕ) (n : Node) → get own y ≡ Some n → n.place.parent.0 ≡ x → ¬ (Spared y) → Going other own s Spared y)

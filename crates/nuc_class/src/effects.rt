@@ -3,7 +3,7 @@ ghost use Rattle.std.specs.Option.{option_copied};
 ghost use Rattle.nuc_class.specs.Effects as effects;
 
 use crate::Effect;
-use crate::equal::same_place;
+use crate::equal::place_eq;
 use crate::split::same_content;
 use nuc_base::{Change, Hashes, Node};
 
@@ -37,5 +37,5 @@ fn is_shown<H: Hashes>(old: Option<&Node>, change: &Change, h: &H) -> bool
 fn looks_same<H: Hashes>(a: &Node, b: &Node, h: &H) -> bool
     ensures { result ≡ effects.looks_same (H.same h.now) a.now b.now }
 {
-    same_place(&a.place, &b.place) && same_content(a.ver, b.ver, h) && a.bit == b.bit
+    place_eq(&a.place, &b.place) && same_content(a.ver, b.ver, h) && a.bit == b.bit
 }

@@ -5,7 +5,7 @@ ghost use Rattle.nuc_base.specs.Trees.{Steps, WellFormed};
 ghost use Rattle.nuc_class.specs.Going.{GoingLocal, GoingRemote, IsKept, Leaves, Stays};
 ghost use Rattle.nuc_class.specs.Sides.{GoingOn, Spared};
 
-use crate::equal::{same_place, same_value};
+use crate::equal::{place_eq, value_eq};
 use nuc_base::{Node, NodeId, TreeLike};
 
 /// Whether what Remote has deleted goes in Local too.
@@ -31,7 +31,7 @@ pub(crate) enum Side {
     Remote,
 }
 
-/// Whether `id` goes on its own side, which is well formed. No more than `left` generations stand from it downwards.
+/// Whether `id` goes on its own side. A walk from it down to the last generation takes fewer than `left` steps.
 fn goes<T: TreeLike>(side: Side, other: &T, own: &T, s: &T, id: NodeId, left: u64) -> bool
     requires form { WellFormed (T.nodes own.now) }
     requires room { (k : ℕ) → 0 < k → Steps (T.nodes own.now) 0 id.0 k → map.len (T.nodes own.now) < k + left }
@@ -55,7 +55,7 @@ fn goes<T: TreeLike>(side: Side, other: &T, own: &T, s: &T, id: NodeId, left: u6
 fn is_kept(other: Option<&Node>, own: Option<&Node>, s: Option<&Node>) -> bool
     ensures { MatchBool result (IsKept (option_copied other.entry) (option_copied own.entry) (option_copied s.entry)) (¬ (IsKept (option_copied other.entry) (option_copied own.entry) (option_copied s.entry))) }
 {
-    other.is_none() && own.is_some() && same_value(own, s)
+    other.is_none() && own.is_some() && value_eq(own, s)
 }
 
 /// Whether a child doesn't go with its folder, since the other side has placed it elsewhere.
@@ -72,7 +72,7 @@ fn leaves(r: Option<&Node>, s: Option<&Node>) -> bool
     ensures { MatchBool result (Leaves (option_copied r.entry) (option_copied s.entry)) (¬ (Leaves (option_copied r.entry) (option_copied s.entry))) }
 {
     match (r, s) {
-        (Some(r), Some(s)) => !same_place(&r.place, &s.place),
+        (Some(r), Some(s)) => !place_eq(&r.place, &s.place),
         (Some(_), None) => true,
         (None, _) => false,
     }
@@ -82,7 +82,7 @@ fn stays(r: Option<&Node>, l: Option<&Node>, s: Option<&Node>) -> bool
     ensures { MatchBool result (Stays (option_copied r.entry) (option_copied l.entry) (option_copied s.entry)) (¬ (Stays (option_copied r.entry) (option_copied l.entry) (option_copied s.entry))) }
 {
     match (r, l, s) {
-        (Some(r), Some(_), Some(s)) => same_place(&r.place, &s.place),
+        (Some(r), Some(_), Some(s)) => place_eq(&r.place, &s.place),
         _ => false,
     }
 }

@@ -20,7 +20,7 @@ mod wish_tests;
 mod wishes;
 
 pub use effects::effect_of;
-pub use equal::{same_place, same_value};
+pub use equal::{place_eq, value_eq};
 pub use going::{going_local, going_remote};
 pub use laws::{
     a_down_keeps_edits, a_wish_has_its_operation, each_has_a_wish, each_has_one_wish,

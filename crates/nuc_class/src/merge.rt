@@ -2,7 +2,7 @@ ghost use Rattle.std.specs.Prelude.{◌≡◌, IfOk};
 ghost use Rattle.std.specs.Option.{option_copied};
 ghost use Rattle.nuc_class.specs.Merge as merge;
 
-use crate::same_place;
+use crate::place_eq;
 use nuc_base::Node;
 use std::alloc::{AllocError, Global};
 
@@ -24,7 +24,7 @@ pub fn target(
 fn merged(alloc: Global, r: &Node, l: &Node, s: &Node) -> Result<Node, AllocError>
     ensures { IfOk result (λ node. node ≡ merge.target r.now (Some l.now) (Some s.now)) }
 {
-    let place = if same_place(&r.place, &s.place) {
+    let place = if place_eq(&r.place, &s.place) {
         &l.place
     } else {
         &r.place

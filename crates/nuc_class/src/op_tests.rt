@@ -1,6 +1,6 @@
 //! The operation of each wish: what it writes in each tree, and where it is carried out.
 use crate::tests::{LastDigit, Row, value};
-use crate::{Effect, Op, Verb, Wish, operation, same_value};
+use crate::{Effect, Op, Verb, Wish, operation, value_eq};
 use nuc_base::{Change, NodeId};
 use std::alloc::Global;
 use std::process::Abort;
@@ -34,7 +34,7 @@ fn is_written(alloc: Global, change: &Change, want: Option<Option<Row>>) -> Resu
     Ok(match (change, want) {
         (Change::Keep, None) | (Change::Cut, Some(None)) => true,
         (Change::Put(node), Some(Some(row))) => {
-            same_value(Some(node), value(alloc, Some(row))?.as_ref())
+            value_eq(Some(node), value(alloc, Some(row))?.as_ref())
         }
         _ => false,
     })
@@ -117,8 +117,8 @@ fn ups_and_cuts(rt: HostRuntime) -> Result<(), Fail> {
         assert_eq!(rt; (op.verb, op.effect), (verb, effect));
         writes(&rt, rt.alloc(), &op, want)?;
         let [_, l, s] = values;
-        assert!(rt; same_value(op.old_local.as_ref(), value(rt.alloc(), l)?.as_ref()));
-        assert!(rt; same_value(op.old_synced.as_ref(), value(rt.alloc(), s)?.as_ref()));
+        assert!(rt; value_eq(op.old_local.as_ref(), value(rt.alloc(), l)?.as_ref()));
+        assert!(rt; value_eq(op.old_synced.as_ref(), value(rt.alloc(), s)?.as_ref()));
         assert_eq!(rt;
             (op.number, op.id, op.other, op.base),
             (0, NodeId(4), NodeId(0), 0)

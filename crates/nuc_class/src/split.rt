@@ -20,7 +20,7 @@ pub fn needs_split<H: Hashes>(r: Option<&Node>, l: Option<&Node>, s: Option<&Nod
 }
 
 /// Whether two versions are one, or have equal hashes.
-pub fn same_content<H: Hashes>(a: Ver, b: Ver, h: &H) -> bool
+pub(crate) fn same_content<H: Hashes>(a: Ver, b: Ver, h: &H) -> bool
     ensures { result ≡ split.same_content (H.same h.now) a.0 b.0 }
 {
     a == b || h.same(a, b)

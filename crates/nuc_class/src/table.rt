@@ -1,7 +1,7 @@
 ghost use Rattle.nuc_base.specs.Trees.{WellFormed};
 ghost use Rattle.nuc_class.specs.Wishes.{IsWish};
 
-use crate::equal::same_value;
+use crate::equal::value_eq;
 use crate::{Wish, going_local, going_remote, needs_split};
 use nuc_base::{Hashes, NodeId, TreeLike};
 
@@ -17,8 +17,8 @@ pub fn wish<T: TreeLike, H: Hashes>(r: &T, l: &T, s: &T, h: &H, id: NodeId) -> W
         return Wish::Split;
     }
     match (remote, local, synced) {
-        (Some(_), Some(_), _) if !same_value(synced, remote) => Wish::Down,
-        (Some(_), Some(_), _) if !same_value(synced, local) => Wish::Up,
+        (Some(_), Some(_), _) if !value_eq(synced, remote) => Wish::Down,
+        (Some(_), Some(_), _) if !value_eq(synced, local) => Wish::Up,
         (Some(_), Some(_), _) => Wish::Nothing,
         (Some(_), None, _) if going_remote(r, l, s, id) => Wish::CutUp,
         (Some(_), None, _) => Wish::Down,

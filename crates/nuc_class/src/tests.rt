@@ -1,7 +1,7 @@
 //! Targets and splits, by the values of one identity.
 ghost use Rattle.std.specs.Prelude.{◌==◌, ◌%◌};
 
-use crate::{needs_split, same_value, target};
+use crate::{needs_split, target, value_eq};
 use nuc_base::{Hashes, Kind, Name, NameFault, Node, NodeId, Place, Ver};
 use std::alloc::Global;
 use std::test::Fail;
@@ -82,7 +82,7 @@ fn targets(rt: HostRuntime) -> Result<(), Fail> {
         let alloc = rt.alloc();
         let (r, l, s) = (node(alloc, r)?, value(alloc, l)?, value(alloc, s)?);
         let found = target(alloc, &r, l.as_ref(), s.as_ref())?;
-        assert!(rt; same_value(Some(&found), Some(&node(alloc, want)?)));
+        assert!(rt; value_eq(Some(&found), Some(&node(alloc, want)?)));
     }
     Ok(())
 }

@@ -1,10 +1,8 @@
-use Rattle.std.proofs.Common.{◌≡◌, Some, sym, arith, rules}
+use Rattle.std.proofs.Common.{sym, arith, rules}
 use Rattle.std.specs.FinMap as map
-use Rattle.std.specs.List.{slice_get}
-use Rattle.nuc_base.specs.Trees.{children}
 use Rattle.nuc_base.proofs.Children.{child_there, children_bound}
 use Rattle.nuc_class.specs.Going.{IsKept}
-use Rattle.nuc_class.proofs.Walk.{at_end, kept_stands, going-child, going_of_children, go_more, some_left, room_below}
+use Rattle.nuc_class.proofs.Walk.{at_end, kept_parts, going-child, going_of_children, go_more, some_left, room_below}
 use Rattle.nuc_class.proofs.going.+goes.Goals as goal
 use Rattle.nuc_class.proofs.going.+goes.Goals.{else-not-is_spared-via-then-not-is_spared+else-not-goes, else-not-is_spared-via-else-not-is_spared}
 
@@ -16,17 +14,17 @@ pub overflow_sub-left : goal.overflow_sub-left
 overflow_sub-left g t c =
     let id = c.args.id.0 in
     let kept : IsKept (map.get (g.T.TreeLike.nodes c.args.other.now) id) (map.get (g.T.TreeLike.nodes c.args.own.now) id) (map.get (g.T.TreeLike.nodes c.args.s.now) id) = search rules in
-    let node = kept_stands _ _ _ kept in
-    some_left _ id c.args.left node.0 c.requires.form node.1 c.requires.room
+    let node = kept_parts _ _ _ kept in
+    some_left _ id c.args.left node.1 c.requires.form node.2 c.requires.room
 
 pub goes-requires : goal.goes-requires
 goes-requires g t c κs out =
     let id = c.args.id.0 in
     let kept : IsKept (map.get (g.T.TreeLike.nodes c.args.other.now) id) (map.get (g.T.TreeLike.nodes c.args.own.now) id) (map.get (g.T.TreeLike.nodes c.args.s.now) id) = search rules in
-    let node = kept_stands _ _ _ kept in
+    let node = kept_parts _ _ _ kept in
     let child = child_there (g.T.TreeLike.nodes c.args.own.now) id c.loop-i.i c.in-Some.child.0 (sym c.in-Some.ensures) in
-    let some = some_left _ id c.args.left node.0 c.requires.form node.1 c.requires.room in
-    let room = room_below _ id c.args.left node.0 c.requires.form node.1 c.requires.room c.in-Some.child.0 child.0 child.1 child.2 in
+    let some = some_left _ id c.args.left node.1 c.requires.form node.2 c.requires.room in
+    let room = room_below _ id c.args.left node.1 c.requires.form node.2 c.requires.room c.in-Some.child.0 child.0 child.1 child.2 in
     (omega (arith, some), (out, (c.requires.form, room)))
 
 pub returns-then-not-goes : goal.returns-then-not-goes

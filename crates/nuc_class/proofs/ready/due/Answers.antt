@@ -1,6 +1,5 @@
 use Rattle.std.proofs.Common.{◌≡◌, Some, sym, subst, ◌<◌, rules}
 use Rattle.std.specs.FinMap.{get}
-use Rattle.nuc_base.specs.Trees.{Nodes}
 use Rattle.nuc_class.specs.Op.{operation}
 use Rattle.nuc_class.proofs.Fits.{operation_id, operations_fit}
 use Rattle.nuc_class.proofs.Rows.{not_legal_not_due}

@@ -1,0 +1,3 @@
+mod Leads
+pub mod Steps
+pub mod Undoing
