@@ -1,5 +1,5 @@
 -- How the flights are kept: a slot for each, in which it stays until the next settling though it is done.
-use Rattle.std.specs.Prelude.{◌≡◌, List, map, Option, None, Some}
+use Rattle.std.specs.Prelude.{◌≡◌, ◌==◌, ◌&&◌, ℕ, Bool, true, false, List, Option, None, Some}
 use Rattle.std.specs.List.{filter_map}
 use Rattle.nuc_class.specs.declared.op.Op.{Op}
 use Rattle.nuc_flights.specs.Flights.{Flight, Stage, planned, started, taken}
@@ -45,3 +45,13 @@ IsSound level.Planned was landing = IsEarly was
 IsSound level.Started was landing = IsEarly was
 IsSound level.Away was landing = Unit {0}
 IsSound level.Taken was landing = (l : Landing) × (landing ≡ Some l)
+
+abbrev pub is_flying : Level → Bool
+is_flying level.Away = false
+is_flying level.Planned = true
+is_flying level.Started = true
+is_flying level.Taken = true
+
+-- it is in flight under this number
+abbrev pub flies : ℕ → Slot → Bool
+flies n s = is_flying s.now && (s.op.number == n)

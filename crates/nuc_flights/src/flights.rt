@@ -1,6 +1,8 @@
 ghost use Rattle.std.specs.Prelude.{◌≡◌, ◌++◌, ◌∷◌, [], length, MatchBool, OnOk, OnErr};
+ghost use Rattle.std.specs.List.{position};
 ghost use Rattle.std.specs.Option.{option_copied, option_map};
-ghost use Rattle.nuc_flights.specs.Flights.{IsPlanned, IsStarted, IsTaken, StandsAt, as_planned, flight_of, landing_of, staged, started, taken, without};
+ghost use Rattle.nuc_flights.specs.Flights.{IsPlanned, IsStarted, IsTaken, StandsAt, as_planned, flight_of, landing_of, staged, taken, started, without};
+ghost use Rattle.nuc_flights.specs.Slots.{flies};
 
 use crate::Landing;
 use crate::slot::{Level, Slot};
@@ -10,7 +12,8 @@ use std::marker::Model;
 
 /// The operations in flight, in the order of their planning.
 ///
-/// A batch has few operations, so they are looked through one by one: every call takes time in their number.
+/// A batch has few operations, so they are looked through one by one: every call takes time in their number, of those that
+/// are in flight and those that were when the flights were last settled.
 #[derive(Debug, Drop)]
 pub struct Flights {
     slots: Vec<Slot>,
@@ -38,19 +41,6 @@ impl Flights {
         }
     }
 
-    /// How many are in flight.
-    pub fn len(&self) -> u64
-        ensures { result ≡ length self.now.now }
-    {
-        let mut count = 0;
-        for slot in &self.slots {
-            if slot.now != Level::Away {
-                count += 1;
-            }
-        }
-        count
-    }
-
     /// Puts an operation in flight, planned, behind the others.
     pub fn fly(&mut self, op: Op) -> Result<(), AllocError>
         ensures ok { OnOk result (self.new.now ≡ self.old.now ++ as_planned op ∷ []) }
@@ -62,33 +52,114 @@ impl Flights {
             now: Level::Planned,
             was: Level::Away,
             landing: None,
-        })
+        })?;
+        Ok(())
     }
 
-    /// The operation of this number in flight.
+    /// The operation in flight under this number.
     pub fn op(&self, number: u64) -> Option<&Op>
         ensures { option_copied result ≡ option_map (λ f. f.op) (flight_of number self.now.now) }
     {
-        match self.slot(number) {
-            Some(slot) => Some(&slot.op),
+        match position_of(&self.slots, number) {
+            Some(at) => Some(&self.slots[at].op),
             None => None,
         }
     }
 
-    /// What came of the operation of this number, where it was taken.
+    /// What came of the operation under this number, where it was taken.
     pub fn landing(&self, number: u64) -> Option<&Landing>
         ensures { option_copied result ≡ landing_of (flight_of number self.now.now) }
     {
-        let slot = self.slot(number)?;
-        if slot.now != Level::Taken {
+        let at = position_of(&self.slots, number)?;
+        if self.slots[at].now != Level::Taken {
             return None;
         }
-        slot.landing.as_ref()
+        self.slots[at].landing.as_ref()
     }
 
-    fn slot(&self, number: u64) -> Option<&Slot> {
-        self.slots
-            .iter()
-            .find(|slot| slot.now != Level::Away && slot.op.number == number)
+    /// A planned operation is started. Whether there is one under this number.
+    pub fn start(&mut self, number: u64) -> bool
+        ensures started { MatchBool result (StandsAt number IsPlanned self.old.now × (self.new.now ≡ staged number started self.old.now))
+            (¬ (StandsAt number IsPlanned self.old.now) × (self.new.now ≡ self.old.now)) }
+        ensures settled { self.new.settled ≡ self.old.settled }
+    {
+        match position_of(&self.slots, number) {
+            Some(at) if self.slots[at].now == Level::Planned => {
+                self.slots[at].now = Level::Started;
+                true
+            }
+            _ => false,
+        }
     }
+
+    /// A started operation was taken, and this came of it. Whether there is one under this number; else what came is
+    /// dropped.
+    pub fn take(&mut self, number: u64, landing: Landing) -> bool
+        ensures taken { MatchBool result (StandsAt number IsStarted self.old.now × (self.new.now ≡ staged number (taken landing) self.old.now))
+            (¬ (StandsAt number IsStarted self.old.now) × (self.new.now ≡ self.old.now)) }
+        ensures settled { self.new.settled ≡ self.old.settled }
+    {
+        match position_of(&self.slots, number) {
+            Some(at) if self.slots[at].now == Level::Started => {
+                self.slots[at].now = Level::Taken;
+                self.slots[at].landing = Some(landing);
+                true
+            }
+            _ => false,
+        }
+    }
+
+    /// A taken operation is done. Whether there is one under this number.
+    pub fn finish(&mut self, number: u64) -> bool
+        ensures finished { MatchBool result (StandsAt number IsTaken self.old.now × (self.new.now ≡ without number self.old.now))
+            (¬ (StandsAt number IsTaken self.old.now) × (self.new.now ≡ self.old.now)) }
+        ensures settled { self.new.settled ≡ self.old.settled }
+    {
+        match position_of(&self.slots, number) {
+            Some(at) if self.slots[at].now == Level::Taken => {
+                self.slots[at].now = Level::Away;
+                true
+            }
+            _ => false,
+        }
+    }
+
+    /// Nothing is in flight any more.
+    pub fn clear(&mut self)
+        ensures now { self.new.now ≡ [] }
+        ensures settled { self.new.settled ≡ self.old.settled }
+    {
+        for slot in self.slots.iter_mut() {
+            slot.now = Level::Away;
+        }
+    }
+
+    /// What is in flight now is what `back` leads to. It takes no memory.
+    pub fn settle(&mut self)
+        ensures now { self.new.now ≡ self.old.now }
+        ensures settled { self.new.settled ≡ self.old.now }
+    {
+        for slot in self.slots.iter_mut() {
+            slot.was = slot.now;
+        }
+        self.slots.retain(|slot| slot.now != Level::Away);
+    }
+
+    /// What was in flight at the last `settle` is so again, each as far as it had come then. It takes no memory.
+    pub fn back(&mut self)
+        ensures now { self.new.now ≡ self.old.settled }
+        ensures settled { self.new.settled ≡ self.old.settled }
+    {
+        for slot in self.slots.iter_mut() {
+            slot.now = slot.was;
+        }
+        self.slots.retain(|slot| slot.now != Level::Away);
+    }
+}
+
+/// Where the operation in flight under this number is.
+fn position_of(slots: &[Slot], number: u64) -> Option<usize>
+    ensures { result ≡ position (flies number) slots.now }
+{
+    slots.iter().position(|slot| slot.flies(number))
 }

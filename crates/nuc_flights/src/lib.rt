@@ -4,8 +4,6 @@
 mod flights;
 mod landing;
 mod slot;
-#[cfg(test)]
-mod tests;
 
 pub use flights::Flights;
 pub use landing::{Landing, Taken};

@@ -1,3 +1,6 @@
+ghost use Rattle.std.specs.Prelude.{◌≡◌};
+ghost use Rattle.nuc_flights.specs.Slots.{flies};
+
 use crate::Landing;
 use nuc_class::Op;
 
@@ -20,4 +23,13 @@ pub struct Slot {
     pub was: Level,
     /// What came of its outside change, from when it is taken.
     pub landing: Option<Landing>,
+}
+
+impl Slot {
+    /// Whether it is in flight under this number.
+    pub fn flies(&self, number: u64) -> bool
+        ensures { result ≡ flies number self.now }
+    {
+        self.now != Level::Away && self.op.number == number
+    }
 }

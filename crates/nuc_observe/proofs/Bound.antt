@@ -1,11 +1,11 @@
 -- The two look-ups of bindings that are apart.
-use Rattle.std.proofs.Common.{◌≡◌, ◌≢◌, ◌<◌, ℕ, zero, suc, Option, None, Some, List, [], ◌∷◌, map, length, refl, sym, ap, subst, ◌∙◌, inl, inr, arith, get_or, All, AllPairs}
+use Rattle.std.proofs.Common.{◌≡◌, ◌≢◌, ◌<◌, ℕ, suc, None, Some, List, [], ◌∷◌, map, length, refl, sym, ap, subst, ◌∙◌, inl, inr, arith, get_or, All, AllPairs}
 use Rattle.std.proofs.lemmas.List.{get_or-map}
 use Rattle.std.proofs.lemmas.List.Elements.{All-tail}
-use Rattle.std.specs.FinMap.{get, insert, empty, from_entries, get-empty}
+use Rattle.std.specs.FinMap.{get, insert, from_entries, get-empty}
 use Rattle.std.specs.Ordering.{nat_cmp}
 use Rattle.nuc_observe.specs.Rows.{AreApart as RowsApart, numbers_in, pairs, without}
-use Rattle.nuc_observe.specs.Keys.{AreApart, IsFree, key_map, row_by_id, row_by_key}
+use Rattle.nuc_observe.specs.Keys.{AreApart, AreBindings, AreKeys, key_map, row_by_id, row_by_key}
 use Rattle.nuc_observe.specs.Pairing.{AreInverse}
 use Rattle.nuc_observe.specs.declared.binding.Binding.{Binding}
 use Rattle.nuc_observe.specs.declared.lookup.Row.{Row}
@@ -71,3 +71,17 @@ bound_inverse (b ∷ bs) apart =
     let unheld = no_key b.key.0 bs (λ j d lt. apart.keys 0 (suc j) d (omega arith) (omega arith)) in
     subst (λ o. AreInverse (insert ids b.id.0 b.key.0) (insert (without keys o) b.key.0 b.id.0)) new
     (put_inverse ids keys (bound_inverse bs (tail_apart b bs apart)) b.id.0 b.key.0 (λ y at. absurd (unheld y at)))
+
+-- THEY ARE KEYS
+no_zero_id : (bs : List Binding) → All (λ b. 0 < b.id.0) bs → get (key_map bs) 0 ≡ None
+no_zero_id bs above = ap (λ m. get m 0) (sym (ids_are bs)) ∙ no_id 0 bs (λ j d lt same. let up = above j d lt in absurd (omega arith))
+
+pub bound_keys : (bs : List Binding) → AreBindings bs → AreKeys (key_map bs)
+bound_keys bs are =
+    let inverse = bound_inverse bs are.apart in
+    let ids : (x k : ℕ) → get (key_map bs) x ≡ Some k → get (numbers_in (map row_by_id bs)) x ≡ Some k = λ x k at. ap (λ m. get m x) (ids_are bs) ∙ at in
+    record {
+      no_root = no_zero_id bs are.ids;
+      no_zero = λ x at. no_key 0 bs (λ j d lt same. let up = are.keys j d lt in absurd (omega arith)) x (ids x 0 at);
+      one_to_one = λ x y k at also. one_number _ x y (inverse.there x k (ids x k at)) (inverse.there y k (ids y k also));
+    }

@@ -4,4 +4,5 @@ mod Maps
 mod Rows
 mod Search
 mod Sorting
+mod Undoing
 mod Views

@@ -1,5 +1,5 @@
 -- What sorting does to rows of different numbers.
-use Rattle.std.proofs.Common.{◌≡◌, ◌≢◌, ◌<◌, ◌≤◌, ℕ, zero, suc, Bool, true, cond, List, [], ◌∷◌, length, map, get_or, AllPairs, Option, None, Some, refl, sym, ap, subst, ◌∙◌, inl, inr, arith}
+use Rattle.std.proofs.Common.{◌≡◌, ◌≢◌, ◌<◌, ℕ, suc, true, cond, List, [], ◌∷◌, length, map, get_or, AllPairs, Option, None, Some, refl, sym, ap, subst, ◌∙◌, inl, inr, arith}
 use Rattle.std.proofs.lemmas.List.{get_or-map}
 use Rattle.std.proofs.lemmas.List.Sorted.{Contains-permutation, IsPermutation-map, IsPermutation-sym}
 use Rattle.std.proofs.lemmas.Map.Keys.{IsDistinct-IsPermutation}
@@ -9,12 +9,12 @@ use Rattle.std.proofs.lemmas.Bool.Decides.{Decides-eqb, eqb_tells}
 use Rattle.std.proofs.lemmas.Cmp.{nat_cmp_total}
 use Rattle.std.specs.Bool.{Decides}
 use Rattle.std.specs.Cmp.{IsEquivalence, eq_by_cmp_equiv, unsigned_tied}
-use Rattle.std.specs.FinMap.{find, from_sorted, from_entries, get-from_entries}
-use Rattle.std.specs.List.{Contains, IsDistinct}
+use Rattle.std.specs.FinMap.{find}
+use Rattle.std.specs.List.{IsDistinct}
 use Rattle.std.specs.List.Sorted.{IsNonDecreasingBy, IsPermutation}
 use Rattle.std.specs.Map.{keys_of, lookup}
 use Rattle.std.specs.Ordering.{nat_cmp, eq_by_cmp}
-use Rattle.nuc_observe.specs.Rows.{AreApart, IsBelow, IsRising, numbers_in, numbers_of, pairs}
+use Rattle.nuc_observe.specs.Rows.{AreApart, IsBelow, IsRising, pairs}
 use Rattle.nuc_observe.specs.declared.lookup.Row.{Row}
 
 abbrev numbers : List Row → List ℕ

@@ -2,8 +2,12 @@
 #![tactic(auto)]
 
 mod binding;
+mod keys;
 mod lookup;
 mod pairing;
+#[cfg(test)]
+mod tests;
 mod undo;
 
 pub use binding::Binding;
+pub use keys::{Keys, keys_are_one_to_one};

@@ -46,7 +46,8 @@ impl Lookup {
     /// What these rows say, which may come in any order.
     pub(crate) fn of(mut rows: Vec<Row>) -> Lookup
         requires { AreApart rows.items }
-        ensures { result.numbers ≡ numbers_in rows.items }
+        ensures numbers { result.numbers ≡ numbers_in rows.items }
+        ensures room { map.len result.numbers ≤ result.room }
     {
         rows.sort_unstable_by_key(|row| row.from);
         Lookup { rows }

@@ -43,7 +43,8 @@ impl Pairing {
 
     pub(crate) fn of(alloc: Global, bindings: &[Binding]) -> Result<Pairing, AllocError>
         requires { AreApart bindings.now }
-        ensures { IfOk result (λ pairing. pairing.numbers ≡ key_map bindings.now) }
+        ensures numbers { IfOk result (λ pairing. pairing.numbers ≡ key_map bindings.now) }
+        ensures room { IfOk result (λ pairing. map.len pairing.numbers ≤ pairing.room) }
     {
         Ok(Pairing {
             by_id: Lookup::of(rows_by_id(alloc, bindings)?),
@@ -108,10 +109,10 @@ impl Pairing {
         ensures before { option_map (λ k. k.0) result ≡ map.get self.old.numbers id.0 }
         ensures room { self.new.room ≡ self.old.room }
     {
-        let before = self.by_id.put(id.0, key.0);
-        self.by_key.cut_any(before);
+        let old = self.by_id.put(id.0, key.0);
+        self.by_key.cut_any(old);
         self.by_key.put(key.0, id.0);
-        before.map(Key)
+        old.map(Key)
     }
 
     fn cut(&mut self, id: NodeId) -> Option<Key>

@@ -7,4 +7,4 @@ pub returns-clause-place : goal.returns-clause-place
 returns-clause-place c =
     let facts = c.binary_search_by_key.ensures in
     let by_number = facts.position (λ row. row.from) (answers_always _ _ _ (λ f a r g called. search rules)) in
-    searched _ c.args.from _ c.requires facts.bound by_number
+    searched c.args.rows.now c.args.from c.binary_search_by_key.result c.requires facts.bound by_number

@@ -1,9 +1,8 @@
-use Rattle.std.proofs.Common.{rules, refl}
+use Rattle.std.proofs.Common.{rules, refl, arith}
 use Rattle.std.proofs.lemmas.List.Sorted.{IsNonDecreasingBy-from_sort_by_key}
-use Rattle.std.specs.List.Sorted.{IsNonDecreasingBy}
 use Rattle.nuc_observe.specs.Rows.{IsRising}
 use Rattle.nuc_observe.proofs.Sorting.{apart_again, rising}
-use Rattle.nuc_observe.proofs.Views.{sorted_is}
+use Rattle.nuc_observe.proofs.Views.{len_is, sorted_is}
 use Rattle.nuc_observe.proofs.lookup.Lookup.of.Goals as goal
 
 risen : (c : goal.After-sort_unstable_by_key) → IsRising c.sort_unstable_by_key.new.self.items
@@ -14,5 +13,10 @@ risen c =
 pub invariant_of-result : goal.invariant_of-result
 invariant_of-result c = risen c
 
-pub returns : goal.returns
-returns c = sorted_is _ _ c.sort_unstable_by_key.ensures.permutation c.requires (risen c)
+pub returns-clause-numbers : goal.returns-clause-numbers
+returns-clause-numbers c = sorted_is _ _ c.sort_unstable_by_key.ensures.permutation c.requires (risen c)
+
+pub returns-clause-room : goal.returns-clause-room
+returns-clause-room c =
+    let rows = c.sort_unstable_by_key.new.self in
+    omega (arith, len_is _ rows.items _ refl refl (risen c), rows.ok.0, rows.ok.1)

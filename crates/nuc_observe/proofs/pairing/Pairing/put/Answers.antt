@@ -12,7 +12,7 @@ put-requires c =
     let keys : Numbers = c.self.inside.by_key.numbers in
     let free = subst (λ (m : Numbers). IsFree m c.args.id.0 c.args.key.0) (sym view) c.requires.free in
     let both = put_inverse ids keys c.self.invariant c.args.id.0 c.args.key.0 free in
-    let rest : c.cut_any.new.self.numbers ≡ without keys (get ids c.args.id.0) = c.cut_any.ensures.numbers ∙ ap (without keys) c.put-before.ensures.before in
+    let rest : c.cut_any.new.self.numbers ≡ without keys (get ids c.args.id.0) = c.cut_any.ensures.numbers ∙ ap (without keys) c.put-old.ensures.before in
     let size : len (insert c.cut_any.new.self.numbers c.args.key.0 c.args.id.0) ≡ len (insert ids c.args.id.0 c.args.key.0) =
     ap (λ (m : Numbers). len (insert m c.args.key.0 c.args.id.0)) rest ∙ sym both.size in
     let fits : len (insert ids c.args.id.0 c.args.key.0) ≤ c.args.self.now.room =
@@ -24,6 +24,6 @@ put-requires c =
 pub invariant_of-self : goal.invariant_of-self
 invariant_of-self c =
     let free = subst (λ (m : Numbers). IsFree m c.args.id.0 c.args.key.0) (sym (ap (λ s. s.numbers) c.self.view_is)) c.requires.free in
-    inverse_as _ _ _ _ (put_inverse _ _ c.self.invariant c.args.id.0 c.args.key.0 free) c.put-before.ensures.numbers
+    inverse_as _ _ _ _ (put_inverse _ _ c.self.invariant c.args.id.0 c.args.key.0 free) c.put-old.ensures.numbers
     (c.put.ensures.numbers
-    ∙ ap (λ (m : Numbers). insert m c.args.key.0 c.args.id.0) (c.cut_any.ensures.numbers ∙ ap (without c.self.inside.by_key.numbers) c.put-before.ensures.before))
+    ∙ ap (λ (m : Numbers). insert m c.args.key.0 c.args.id.0) (c.cut_any.ensures.numbers ∙ ap (without c.self.inside.by_key.numbers) c.put-old.ensures.before))

@@ -1,0 +1,10 @@
+use Rattle.std.proofs.Common.{◌≡◌, ◌≤◌, ◌+◌, length}
+use Rattle.nuc_observe.specs.State.{settled_of}
+use Rattle.nuc_observe.proofs.keys.Keys.back.Given as goal
+
+abbrev pub invariant-loop : goal.invariant-loop
+invariant-loop l = record {
+  settled : settled_of l.self ≡ settled_of l.initial.self;
+  left : length l.self.past + l.counter ≡ l.end;
+  spare : l.initial.self.spare ≤ l.self.spare;
+}
