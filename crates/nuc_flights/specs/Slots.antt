@@ -1,5 +1,5 @@
 -- How the flights are kept: a slot for each, in which it stays until the next settling though it is done.
-use Rattle.std.specs.Prelude.{◌≡◌, ◌==◌, ◌&&◌, ℕ, Bool, true, false, List, Option, None, Some}
+use Rattle.std.specs.Prelude.{◌≡◌, ◌==◌, ◌&&◌, ℕ, suc, Bool, true, false, List, ◌∷◌, Option, None, Some}
 use Rattle.std.specs.List.{filter_map}
 use Rattle.nuc_class.specs.declared.op.Op.{Op}
 use Rattle.nuc_flights.specs.Flights.{Flight, Stage, planned, started, taken}
@@ -21,7 +21,7 @@ flight_at op None = None
 flight_at op (Some stage) = Some (record { op = op; stage = stage })
 
 abbrev pub flight_now : Slot → Option Flight
-flight_now s = flight_at s.op (stage_at s.now s.landing)
+flight_now s = flight_at s.op (stage_at s.at s.landing)
 
 abbrev pub flight_was : Slot → Option Flight
 flight_was s = flight_at s.op (stage_at s.was s.landing)
@@ -54,4 +54,9 @@ is_flying level.Taken = true
 
 -- it is in flight under this number
 abbrev pub flies : ℕ → Slot → Bool
-flies n s = is_flying s.now && (s.op.number == n)
+flies n s = is_flying s.at && (s.op.number == n)
+
+-- the first slot in flight under the number, with the ones before it
+pub data Finds (n : ℕ) : List Slot → ℕ → Slot → Type 0 where
+  here : (s : Slot) (ss : List Slot) → flies n s ≡ true → Finds n (s ∷ ss) 0 s
+  there : (s t : Slot) (ss : List Slot) (i : ℕ) → flies n s ≡ false → Finds n ss i t → Finds n (s ∷ ss) (suc i) t

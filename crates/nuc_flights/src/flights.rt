@@ -1,8 +1,9 @@
-ghost use Rattle.std.specs.Prelude.{◌≡◌, ◌++◌, ◌∷◌, [], length, MatchBool, OnOk, OnErr};
+ghost use Rattle.std.specs.Prelude.{◌≡◌, ◌≢◌, ◌++◌, ◌∷◌, [], ℕ, MatchBool, MatchOption, OnOk, OnErr};
 ghost use Rattle.std.specs.List.{position};
 ghost use Rattle.std.specs.Option.{option_copied, option_map};
 ghost use Rattle.nuc_flights.specs.Flights.{IsPlanned, IsStarted, IsTaken, StandsAt, as_planned, flight_of, landing_of, staged, taken, started, without};
-ghost use Rattle.nuc_flights.specs.Slots.{flies};
+ghost use Rattle.nuc_flights.specs.Slots.{Finds, flies};
+ghost use Rattle.nuc_flights.specs.declared.slot.Slot.{Slot};
 
 use crate::Landing;
 use crate::slot::{Level, Slot};
@@ -28,7 +29,7 @@ impl Model for Flights {
 
     ghost view = { λ f. record { now = flights_now f.slots.items; settled = flights_were f.slots.items } };
 
-    ghost invariant = { λ f. All (λ s. IsSound s.now s.was s.landing) f.slots.items };
+    ghost invariant = { λ f. All (λ s. IsSound s.at s.was s.landing) f.slots.items };
 }
 
 impl Flights {
@@ -49,7 +50,7 @@ impl Flights {
     {
         self.slots.push(Slot {
             op,
-            now: Level::Planned,
+            at: Level::Planned,
             was: Level::Away,
             landing: None,
         })?;
@@ -70,11 +71,10 @@ impl Flights {
     pub fn landing(&self, number: u64) -> Option<&Landing>
         ensures { option_copied result ≡ landing_of (flight_of number self.now.now) }
     {
-        let at = position_of(&self.slots, number)?;
-        if self.slots[at].now != Level::Taken {
-            return None;
+        match position_at(&self.slots, number, Level::Taken) {
+            Some(at) => self.slots[at].landing.as_ref(),
+            None => None,
         }
-        self.slots[at].landing.as_ref()
     }
 
     /// A planned operation is started. Whether there is one under this number.
@@ -83,13 +83,11 @@ impl Flights {
             (¬ (StandsAt number IsPlanned self.old.now) × (self.new.now ≡ self.old.now)) }
         ensures settled { self.new.settled ≡ self.old.settled }
     {
-        match position_of(&self.slots, number) {
-            Some(at) if self.slots[at].now == Level::Planned => {
-                self.slots[at].now = Level::Started;
-                true
-            }
-            _ => false,
-        }
+        let Some(at) = position_at(&self.slots, number, Level::Planned) else {
+            return false;
+        };
+        self.slots[at].at = Level::Started;
+        true
     }
 
     /// A started operation was taken, and this came of it. Whether there is one under this number; else what came is
@@ -99,14 +97,11 @@ impl Flights {
             (¬ (StandsAt number IsStarted self.old.now) × (self.new.now ≡ self.old.now)) }
         ensures settled { self.new.settled ≡ self.old.settled }
     {
-        match position_of(&self.slots, number) {
-            Some(at) if self.slots[at].now == Level::Started => {
-                self.slots[at].now = Level::Taken;
-                self.slots[at].landing = Some(landing);
-                true
-            }
-            _ => false,
-        }
+        let Some(at) = position_at(&self.slots, number, Level::Started) else {
+            return false;
+        };
+        self.slots[at].land(landing);
+        true
     }
 
     /// A taken operation is done. Whether there is one under this number.
@@ -115,13 +110,11 @@ impl Flights {
             (¬ (StandsAt number IsTaken self.old.now) × (self.new.now ≡ self.old.now)) }
         ensures settled { self.new.settled ≡ self.old.settled }
     {
-        match position_of(&self.slots, number) {
-            Some(at) if self.slots[at].now == Level::Taken => {
-                self.slots[at].now = Level::Away;
-                true
-            }
-            _ => false,
-        }
+        let Some(at) = position_at(&self.slots, number, Level::Taken) else {
+            return false;
+        };
+        self.slots[at].at = Level::Away;
+        true
     }
 
     /// Nothing is in flight any more.
@@ -130,7 +123,7 @@ impl Flights {
         ensures settled { self.new.settled ≡ self.old.settled }
     {
         for slot in self.slots.iter_mut() {
-            slot.now = Level::Away;
+            slot.at = Level::Away;
         }
     }
 
@@ -140,9 +133,9 @@ impl Flights {
         ensures settled { self.new.settled ≡ self.old.now }
     {
         for slot in self.slots.iter_mut() {
-            slot.was = slot.now;
+            slot.was = slot.at;
         }
-        self.slots.retain(|slot| slot.now != Level::Away);
+        self.slots.retain(|slot| slot.at != Level::Away);
     }
 
     /// What was in flight at the last `settle` is so again, each as far as it had come then. It takes no memory.
@@ -151,9 +144,9 @@ impl Flights {
         ensures settled { self.new.settled ≡ self.old.settled }
     {
         for slot in self.slots.iter_mut() {
-            slot.now = slot.was;
+            slot.at = slot.was;
         }
-        self.slots.retain(|slot| slot.now != Level::Away);
+        self.slots.retain(|slot| slot.at != Level::Away);
     }
 }
 
@@ -162,4 +155,16 @@ fn position_of(slots: &[Slot], number: u64) -> Option<usize>
     ensures { result ≡ position (flies number) slots.now }
 {
     slots.iter().position(|slot| slot.flies(number))
+}
+
+/// Where the operation in flight under this number is, if it has come just so far.
+fn position_at(slots: &[Slot], number: u64, level: Level) -> Option<usize>
+    ensures { MatchOption result ((i : ℕ) (s : Slot) → Finds number slots.now i s → s.at ≢ level) (λ i. (s : Slot) × Finds number slots.now i s × (s.at ≡ level)) }
+{
+    let at = position_of(slots, number)?;
+    if slots[at].at == level {
+        Some(at)
+    } else {
+        None
+    }
 }

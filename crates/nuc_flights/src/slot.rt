@@ -1,4 +1,4 @@
-ghost use Rattle.std.specs.Prelude.{◌≡◌};
+ghost use Rattle.std.specs.Prelude.{◌≡◌, Some};
 ghost use Rattle.nuc_flights.specs.Slots.{flies};
 
 use crate::Landing;
@@ -18,7 +18,7 @@ pub enum Level {
 #[derive(Debug, Drop)]
 pub struct Slot {
     pub op: Op,
-    pub now: Level,
+    pub at: Level,
     /// How far it had come when the flights were last settled.
     pub was: Level,
     /// What came of its outside change, from when it is taken.
@@ -26,10 +26,18 @@ pub struct Slot {
 }
 
 impl Slot {
+    /// It was taken, and this came of it.
+    pub fn land(&mut self, landing: Landing)
+        ensures { self.new ≡ record self.old { at = Level.Taken; landing = Some landing } }
+    {
+        self.at = Level::Taken;
+        self.landing = Some(landing);
+    }
+
     /// Whether it is in flight under this number.
     pub fn flies(&self, number: u64) -> bool
         ensures { result ≡ flies number self.now }
     {
-        self.now != Level::Away && self.op.number == number
+        self.at != Level::Away && self.op.number == number
     }
 }
