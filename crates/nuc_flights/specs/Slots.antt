@@ -39,12 +39,23 @@ IsEarly level.Planned = Unit {0}
 IsEarly level.Started = Unit {0}
 IsEarly level.Taken = ⊥
 
--- where it hasn't come to be taken now, it hadn't then; and with what came of it, if it was
-abbrev pub IsSound : Level → Level → Option Landing → Type 0
-IsSound level.Planned was landing = IsEarly was
-IsSound level.Started was landing = IsEarly was
-IsSound level.Away was landing = Unit {0}
-IsSound level.Taken was landing = (l : Landing) × (landing ≡ Some l)
+-- what was taken has what came of it
+abbrev pub HasLanding : Level → Option Landing → Type 0
+HasLanding level.Taken (Some landing) = Unit {0}
+HasLanding level.Taken None = ⊥
+HasLanding _ landing = Unit {0}
+
+-- where it is planned or started now, it hadn't been taken then
+abbrev pub CameBefore : Level → Level → Type 0
+CameBefore was level.Planned = IsEarly was
+CameBefore was level.Started = IsEarly was
+CameBefore was level.Away = Unit {0}
+CameBefore was level.Taken = Unit {0}
+
+pub record IsSound (s : Slot) : Type 0 where
+  pub now : HasLanding s.at s.landing
+  pub then : HasLanding s.was s.landing
+  pub order : CameBefore s.was s.at
 
 abbrev pub is_flying : Level → Bool
 is_flying level.Away = false
@@ -60,3 +71,16 @@ flies n s = is_flying s.at && (s.op.number == n)
 pub data Finds (n : ℕ) : List Slot → ℕ → Slot → Type 0 where
   here : (s : Slot) (ss : List Slot) → flies n s ≡ true → Finds n (s ∷ ss) 0 s
   there : (s t : Slot) (ss : List Slot) (i : ℕ) → flies n s ≡ false → Finds n ss i t → Finds n (s ∷ ss) (suc i) t
+
+-- what settling, going back and forgetting make of a slot
+abbrev pub settled_slot : Slot → Slot
+settled_slot s = record s { was = s.at }
+
+abbrev pub back_slot : Slot → Slot
+back_slot s = record s { at = s.was }
+
+abbrev pub away_slot : Slot → Slot
+away_slot s = record s { at = level.Away }
+
+abbrev pub is_kept : Slot → Bool
+is_kept s = is_flying s.at

@@ -1,8 +1,8 @@
-ghost use Rattle.std.specs.Prelude.{◌≡◌, ◌≢◌, ◌++◌, ◌∷◌, [], ℕ, MatchBool, MatchOption, OnOk, OnErr};
-ghost use Rattle.std.specs.List.{position};
+ghost use Rattle.std.specs.Prelude.{◌≡◌, ◌≢◌, ◌++◌, ◌∷◌, [], ℕ, map, MatchBool, MatchOption, OnOk, OnErr};
+ghost use Rattle.std.specs.List.{filter, position};
 ghost use Rattle.std.specs.Option.{option_copied, option_map};
 ghost use Rattle.nuc_flights.specs.Flights.{IsPlanned, IsStarted, IsTaken, StandsAt, as_planned, flight_of, landing_of, staged, taken, started, without};
-ghost use Rattle.nuc_flights.specs.Slots.{Finds, flies};
+ghost use Rattle.nuc_flights.specs.Slots.{Finds, away_slot, back_slot, flies, is_kept, settled_slot};
 ghost use Rattle.nuc_flights.specs.declared.slot.Slot.{Slot};
 
 use crate::Landing;
@@ -29,7 +29,7 @@ impl Model for Flights {
 
     ghost view = { λ f. record { now = flights_now f.slots.items; settled = flights_were f.slots.items } };
 
-    ghost invariant = { λ f. All (λ s. IsSound s.at s.was s.landing) f.slots.items };
+    ghost invariant = { λ f. All IsSound f.slots.items };
 }
 
 impl Flights {
@@ -122,9 +122,7 @@ impl Flights {
         ensures now { self.new.now ≡ [] }
         ensures settled { self.new.settled ≡ self.old.settled }
     {
-        for slot in self.slots.iter_mut() {
-            slot.at = Level::Away;
-        }
+        put_away(&mut self.slots);
     }
 
     /// What is in flight now is what `back` leads to. It takes no memory.
@@ -132,10 +130,8 @@ impl Flights {
         ensures now { self.new.now ≡ self.old.now }
         ensures settled { self.new.settled ≡ self.old.now }
     {
-        for slot in self.slots.iter_mut() {
-            slot.was = slot.at;
-        }
-        self.slots.retain(|slot| slot.at != Level::Away);
+        note_levels(&mut self.slots);
+        drop_away(&mut self.slots);
     }
 
     /// What was in flight at the last `settle` is so again, each as far as it had come then. It takes no memory.
@@ -143,10 +139,8 @@ impl Flights {
         ensures now { self.new.now ≡ self.old.settled }
         ensures settled { self.new.settled ≡ self.old.settled }
     {
-        for slot in self.slots.iter_mut() {
-            slot.at = slot.was;
-        }
-        self.slots.retain(|slot| slot.at != Level::Away);
+        take_levels_back(&mut self.slots);
+        drop_away(&mut self.slots);
     }
 }
 
@@ -161,10 +155,45 @@ fn position_of(slots: &[Slot], number: u64) -> Option<usize>
 fn position_at(slots: &[Slot], number: u64, level: Level) -> Option<usize>
     ensures { MatchOption result ((i : ℕ) (s : Slot) → Finds number slots.now i s → s.at ≢ level) (λ i. (s : Slot) × Finds number slots.now i s × (s.at ≡ level)) }
 {
-    let at = position_of(slots, number)?;
-    if slots[at].at == level {
-        Some(at)
-    } else {
-        None
+    match position_of(slots, number) {
+        Some(at) => {
+            if slots[at].at == level {
+                Some(at)
+            } else {
+                None
+            }
+        }
+        None => None,
     }
+}
+
+fn put_away(slots: &mut Vec<Slot>)
+    ensures { slots.new.items ≡ map away_slot slots.old.items }
+{
+    for slot in slots.iter_mut() {
+        slot.at = Level::Away;
+    }
+}
+
+fn note_levels(slots: &mut Vec<Slot>)
+    ensures { slots.new.items ≡ map settled_slot slots.old.items }
+{
+    for slot in slots.iter_mut() {
+        slot.was = slot.at;
+    }
+}
+
+fn take_levels_back(slots: &mut Vec<Slot>)
+    ensures { slots.new.items ≡ map back_slot slots.old.items }
+{
+    for slot in slots.iter_mut() {
+        slot.at = slot.was;
+    }
+}
+
+/// Drops the slots of operations that aren't in flight.
+fn drop_away(slots: &mut Vec<Slot>)
+    ensures { slots.new.items ≡ filter is_kept slots.old.items }
+{
+    slots.retain(|slot| slot.at != Level::Away);
 }

@@ -7,3 +7,6 @@ mod slot;
 
 pub use flights::Flights;
 pub use landing::{Landing, Taken};
+
+#[cfg(test)]
+mod tests;
