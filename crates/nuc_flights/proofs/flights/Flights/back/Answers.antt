@@ -1,0 +1,16 @@
+use Rattle.std.specs.Prelude.{All}
+use Rattle.std.specs.List.{filter}
+use Rattle.std.proofs.Common.{sym, ◌∙◌, ap, subst}
+use Rattle.nuc_flights.specs.Flights.{FlightsState}
+use Rattle.nuc_flights.specs.Slots.{IsSound, flights_now, flights_were, is_kept}
+use Rattle.nuc_flights.proofs.Flying.{back_sound, back_now, back_were}
+use Rattle.nuc_flights.proofs.flights.Flights.back.Goals as goal
+
+pub invariant_of-self : goal.invariant_of-self
+invariant_of-self c = subst (All IsSound) (sym (c.drop_away.ensures ∙ ap (filter is_kept) c.take_levels_back.ensures)) (back_sound c.self.inside.slots.items c.self.invariant)
+
+pub returns-clause-now : goal.returns-clause-now
+returns-clause-now c = ap flights_now (c.drop_away.ensures ∙ ap (filter is_kept) c.take_levels_back.ensures) ∙ back_now c.self.inside.slots.items ∙ ap (λ (s : FlightsState). s.settled) c.self.view_is
+
+pub returns-clause-settled : goal.returns-clause-settled
+returns-clause-settled c = ap flights_were (c.drop_away.ensures ∙ ap (filter is_kept) c.take_levels_back.ensures) ∙ back_were c.self.inside.slots.items ∙ ap (λ (s : FlightsState). s.settled) c.self.view_is

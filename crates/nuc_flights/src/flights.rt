@@ -1,0 +1,199 @@
+ghost use Rattle.std.specs.Prelude.{◌≡◌, ◌≢◌, ◌++◌, ◌∷◌, [], ℕ, map, MatchBool, MatchOption, OnOk, OnErr};
+ghost use Rattle.std.specs.List.{filter, position};
+ghost use Rattle.std.specs.Option.{option_copied, option_map};
+ghost use Rattle.nuc_flights.specs.Flights.{IsPlanned, IsStarted, IsTaken, StandsAt, as_planned, flight_of, landing_of, staged, taken, started, without};
+ghost use Rattle.nuc_flights.specs.Slots.{Finds, away_slot, back_slot, flies, is_kept, settled_slot};
+ghost use Rattle.nuc_flights.specs.declared.slot.Slot.{Slot};
+
+use crate::Landing;
+use crate::slot::{Level, Slot};
+use nuc_class::Op;
+use std::alloc::{AllocError, Global};
+use std::marker::Model;
+
+/// The operations in flight, in the order of their planning.
+///
+/// A batch has few operations, so they are looked through one by one: every call takes time in their number, of those that
+/// are in flight and those that were when the flights were last settled.
+#[derive(Debug, Drop)]
+pub struct Flights {
+    slots: Vec<Slot>,
+}
+
+impl Model for Flights {
+    ghost use Rattle.std.specs.Prelude.{All};
+    ghost use Rattle.nuc_flights.specs.Flights.{FlightsState};
+    ghost use Rattle.nuc_flights.specs.Slots.{IsSound, flights_now, flights_were};
+
+    ghost Value = { FlightsState };
+
+    ghost view = { λ f. record { now = flights_now f.slots.items; settled = flights_were f.slots.items } };
+
+    ghost invariant = { λ f. All IsSound f.slots.items };
+}
+
+impl Flights {
+    /// Nothing in flight, in no memory.
+    pub fn new(alloc: Global) -> Flights
+        ensures { result ≡ record { now = []; settled = [] } }
+    {
+        Flights {
+            slots: Vec::new(alloc),
+        }
+    }
+
+    /// Puts an operation in flight, planned, behind the others.
+    pub fn fly(&mut self, op: Op) -> Result<(), AllocError>
+        ensures ok { OnOk result (self.new.now ≡ self.old.now ++ as_planned op ∷ []) }
+        ensures err { OnErr result (self.new.now ≡ self.old.now) }
+        ensures settled { self.new.settled ≡ self.old.settled }
+    {
+        self.slots.push(Slot {
+            op,
+            at: Level::Planned,
+            was: Level::Away,
+            landing: None,
+        })?;
+        Ok(())
+    }
+
+    /// The operation in flight under this number.
+    pub fn op(&self, number: u64) -> Option<&Op>
+        ensures { option_copied result ≡ option_map (λ f. f.op) (flight_of number self.now.now) }
+    {
+        match position_of(&self.slots, number) {
+            Some(at) => Some(&self.slots[at].op),
+            None => None,
+        }
+    }
+
+    /// What came of the operation under this number, where it was taken.
+    pub fn landing(&self, number: u64) -> Option<&Landing>
+        ensures { option_copied result ≡ landing_of (flight_of number self.now.now) }
+    {
+        match position_at(&self.slots, number, Level::Taken) {
+            Some(at) => self.slots[at].landing.as_ref(),
+            None => None,
+        }
+    }
+
+    /// A planned operation is started. Whether there is one under this number.
+    pub fn start(&mut self, number: u64) -> bool
+        ensures started { MatchBool result (StandsAt number IsPlanned self.old.now × (self.new.now ≡ staged number started self.old.now))
+            (¬ (StandsAt number IsPlanned self.old.now) × (self.new.now ≡ self.old.now)) }
+        ensures settled { self.new.settled ≡ self.old.settled }
+    {
+        let Some(at) = position_at(&self.slots, number, Level::Planned) else {
+            return false;
+        };
+        self.slots[at].at = Level::Started;
+        true
+    }
+
+    /// A started operation was taken, and this came of it. Whether there is one under this number; else what came is
+    /// dropped.
+    pub fn take(&mut self, number: u64, landing: Landing) -> bool
+        ensures taken { MatchBool result (StandsAt number IsStarted self.old.now × (self.new.now ≡ staged number (taken landing) self.old.now))
+            (¬ (StandsAt number IsStarted self.old.now) × (self.new.now ≡ self.old.now)) }
+        ensures settled { self.new.settled ≡ self.old.settled }
+    {
+        let Some(at) = position_at(&self.slots, number, Level::Started) else {
+            return false;
+        };
+        self.slots[at].land(landing);
+        true
+    }
+
+    /// A taken operation is done. Whether there is one under this number.
+    pub fn finish(&mut self, number: u64) -> bool
+        ensures finished { MatchBool result (StandsAt number IsTaken self.old.now × (self.new.now ≡ without number self.old.now))
+            (¬ (StandsAt number IsTaken self.old.now) × (self.new.now ≡ self.old.now)) }
+        ensures settled { self.new.settled ≡ self.old.settled }
+    {
+        let Some(at) = position_at(&self.slots, number, Level::Taken) else {
+            return false;
+        };
+        self.slots[at].at = Level::Away;
+        true
+    }
+
+    /// Nothing is in flight any more.
+    pub fn clear(&mut self)
+        ensures now { self.new.now ≡ [] }
+        ensures settled { self.new.settled ≡ self.old.settled }
+    {
+        put_away(&mut self.slots);
+    }
+
+    /// What is in flight now is what `back` leads to. It takes no memory.
+    pub fn settle(&mut self)
+        ensures now { self.new.now ≡ self.old.now }
+        ensures settled { self.new.settled ≡ self.old.now }
+    {
+        note_levels(&mut self.slots);
+        drop_away(&mut self.slots);
+    }
+
+    /// What was in flight at the last `settle` is so again, each as far as it had come then. It takes no memory.
+    pub fn back(&mut self)
+        ensures now { self.new.now ≡ self.old.settled }
+        ensures settled { self.new.settled ≡ self.old.settled }
+    {
+        take_levels_back(&mut self.slots);
+        drop_away(&mut self.slots);
+    }
+}
+
+/// Where the operation in flight under this number is.
+fn position_of(slots: &[Slot], number: u64) -> Option<usize>
+    ensures { result ≡ position (flies number) slots.now }
+{
+    slots.iter().position(|slot| slot.flies(number))
+}
+
+/// Where the operation in flight under this number is, if it has come just so far.
+fn position_at(slots: &[Slot], number: u64, level: Level) -> Option<usize>
+    ensures { MatchOption result ((i : ℕ) (s : Slot) → Finds number slots.now i s → s.at ≢ level) (λ i. (s : Slot) × Finds number slots.now i s × (s.at ≡ level)) }
+{
+    match position_of(slots, number) {
+        Some(at) => {
+            if slots[at].at == level {
+                Some(at)
+            } else {
+                None
+            }
+        }
+        None => None,
+    }
+}
+
+fn put_away(slots: &mut Vec<Slot>)
+    ensures { slots.new.items ≡ map away_slot slots.old.items }
+{
+    for slot in slots.iter_mut() {
+        slot.at = Level::Away;
+    }
+}
+
+fn note_levels(slots: &mut Vec<Slot>)
+    ensures { slots.new.items ≡ map settled_slot slots.old.items }
+{
+    for slot in slots.iter_mut() {
+        slot.was = slot.at;
+    }
+}
+
+fn take_levels_back(slots: &mut Vec<Slot>)
+    ensures { slots.new.items ≡ map back_slot slots.old.items }
+{
+    for slot in slots.iter_mut() {
+        slot.at = slot.was;
+    }
+}
+
+/// Drops the slots of operations that aren't in flight.
+fn drop_away(slots: &mut Vec<Slot>)
+    ensures { slots.new.items ≡ filter is_kept slots.old.items }
+{
+    slots.retain(|slot| slot.at != Level::Away);
+}

@@ -1,0 +1,12 @@
+//! The operations in flight, each with how far it has come, and what they were when they were last settled.
+#![tactic(auto)]
+
+mod flights;
+mod landing;
+mod slot;
+
+pub use flights::Flights;
+pub use landing::{Landing, Taken};
+
+#[cfg(test)]
+mod tests;

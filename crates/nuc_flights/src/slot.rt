@@ -1,0 +1,43 @@
+ghost use Rattle.std.specs.Prelude.{◌≡◌, Some};
+ghost use Rattle.nuc_flights.specs.Slots.{flies};
+
+use crate::Landing;
+use nuc_class::Op;
+
+/// How far an operation has come.
+#[derive(Clone, Copy, Debug, PartialEq, Eq)]
+pub enum Level {
+    /// It isn't in flight: not planned yet, or done.
+    Away,
+    Planned,
+    Started,
+    Taken,
+}
+
+/// An operation that is in flight, or was when the flights were last settled.
+#[derive(Debug, Drop)]
+pub struct Slot {
+    pub op: Op,
+    pub at: Level,
+    /// How far it had come when the flights were last settled.
+    pub was: Level,
+    /// What came of its outside change, from when it is taken.
+    pub landing: Option<Landing>,
+}
+
+impl Slot {
+    /// It was taken, and this came of it.
+    pub fn land(&mut self, landing: Landing)
+        ensures { self.new ≡ record self.old { at = Level.Taken; landing = Some landing } }
+    {
+        self.at = Level::Taken;
+        self.landing = Some(landing);
+    }
+
+    /// Whether it is in flight under this number.
+    pub fn flies(&self, number: u64) -> bool
+        ensures { result ≡ flies number self.now }
+    {
+        self.at != Level::Away && self.op.number == number
+    }
+}
