@@ -54,6 +54,7 @@ impl<T: TreeLike> UndoTree<T> {
         }
     }
 
+    /// The tree with all changes that were made and not taken back.
     pub fn tree(&self) -> &T
         ensures nodes { T.nodes result.now ≡ self.now.now }
         ensures form { WellFormed self.now.now }
