@@ -1,5 +1,5 @@
 -- The operations in flight, as a caller sees them.
-use Rattle.std.specs.Prelude.{◌≡◌, ◌==◌, ℕ, cond, List, [], ◌∷◌, Option, None, Some, IsSomeAnd}
+use Rattle.std.specs.Prelude.{◌==◌, ℕ, cond, List, [], ◌∷◌, Option, None, Some, IsSomeAnd}
 use Rattle.nuc_class.specs.declared.op.Op.{Op}
 use Rattle.nuc_flights.specs.declared.landing.Landing.{Landing}
 

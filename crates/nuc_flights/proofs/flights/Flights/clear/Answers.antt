@@ -1,8 +1,7 @@
 use Rattle.std.specs.Prelude.{All}
-use Rattle.std.specs.List.{filter}
 use Rattle.std.proofs.Common.{sym, ◌∙◌, ap, subst}
 use Rattle.nuc_flights.specs.Flights.{FlightsState}
-use Rattle.nuc_flights.specs.Slots.{IsSound, flights_now, flights_were, is_kept}
+use Rattle.nuc_flights.specs.Slots.{IsSound, flights_now, flights_were}
 use Rattle.nuc_flights.proofs.Flying.{away_sound, all_away, away_were}
 use Rattle.nuc_flights.proofs.flights.Flights.clear.Goals as goal
 

@@ -1,4 +1,4 @@
-use Rattle.std.proofs.Common.{◌≡◌, ◌≢◌, ◌<◌, Option, None, Some, sym, ◌∙◌, ap, subst}
+use Rattle.std.proofs.Common.{◌≡◌, ◌≢◌, ◌<◌, sym, ◌∙◌, ap, subst}
 use Rattle.nuc_flights.specs.Flights.{FlightsState, IsTaken, StandsAt, flight_of, landing_of}
 use Rattle.nuc_flights.specs.Slots.{Finds}
 use Rattle.nuc_flights.specs.declared.slot.Level.TheVariants as level

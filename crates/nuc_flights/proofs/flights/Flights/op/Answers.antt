@@ -1,9 +1,8 @@
 use Rattle.std.specs.List.{position}
 use Rattle.std.specs.Option.{option_map}
-use Rattle.std.proofs.Common.{◌≡◌, None, Some, sym, ◌∙◌, ap, subst}
+use Rattle.std.proofs.Common.{sym, ◌∙◌, ap, subst}
 use Rattle.nuc_flights.specs.Flights.{Flight, FlightsState, flight_of}
 use Rattle.nuc_flights.specs.Slots.{Finds, flies}
-use Rattle.nuc_flights.specs.declared.slot.Slot.{Slot}
 use Rattle.nuc_flights.proofs.Flying.{finds_hit, flight_is, found, found_sound, not_flying, stage_of}
 use Rattle.nuc_flights.proofs.flights.Flights.op.Goals as goal
 

@@ -1,4 +1,4 @@
-use Rattle.std.proofs.Common.{◌≡◌, ◌≢◌, ◌<◌, get_or, Some, sym, ◌∙◌, ap, subst, refl}
+use Rattle.std.proofs.Common.{◌≡◌, ◌≢◌, ◌<◌, sym, ◌∙◌, ap, subst, refl}
 use Rattle.nuc_flights.specs.Flights.{FlightsState, IsPlanned, StandsAt, planned, staged, started}
 use Rattle.nuc_flights.specs.Slots.{Finds, IsSound, flight_was}
 use Rattle.nuc_flights.specs.declared.slot.Level.TheVariants as level

@@ -1,4 +1,4 @@
-use Rattle.std.proofs.Common.{◌≡◌, ◌≢◌, ◌<◌, get_or, Some, sym, ◌∙◌, ap, subst, refl}
+use Rattle.std.proofs.Common.{◌≡◌, ◌≢◌, ◌<◌, Some, sym, ◌∙◌, ap, subst, refl}
 use Rattle.nuc_flights.specs.Flights.{FlightsState, IsStarted, StandsAt, staged, started, taken}
 use Rattle.nuc_flights.specs.Slots.{Finds, IsSound, flight_was, stage_at}
 use Rattle.nuc_flights.specs.declared.slot.Level.TheVariants as level
