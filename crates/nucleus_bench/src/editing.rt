@@ -20,10 +20,11 @@ pub(crate) fn edits(alloc: Global, count: u64) -> Result<String, Fault> {
 }
 
 fn told(alloc: Global, edits: &Edits, count: u64) -> Result<String, Fault> {
+    let entered = edits.len();
     let based = (1..=count).filter(|ver| edits.based(Ver(*ver))).count();
     let adopted = (1..=count).filter(|ver| edits.adopted(Ver(*ver))).count();
     let hash = hash_contents(alloc, edits, count)?;
-    Ok(format!(in alloc; "edits {based} based {adopted} adopted {hash}")?)
+    Ok(format!(in alloc; "edits {entered} entered {based} based {adopted} adopted {hash}")?)
 }
 
 fn enter_all(alloc: Global, edits: &mut Edits, count: u64) -> Result<(), AllocError>

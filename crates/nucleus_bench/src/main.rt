@@ -11,6 +11,8 @@ mod layout;
 mod pages;
 mod placing;
 mod storing;
+#[cfg(test)]
+mod tests;
 mod work;
 
 use fault::Fault;

@@ -15,13 +15,14 @@ pub(crate) fn store(alloc: Global, count: u64) -> Result<String, Fault> {
 }
 
 fn told(alloc: Global, store: &Store, list: &[Digest]) -> Result<String, Fault> {
+    let blocks = store.len();
     let found = list
         .iter()
         .filter(|digest| store.get(digest).is_some())
         .count();
     let missing = count_missing(alloc, store, list)?;
     let hash = assemble(alloc, store, list)?;
-    Ok(format!(in alloc; "store {found} found {missing} missing {hash}")?)
+    Ok(format!(in alloc; "store {blocks} blocks {found} found {missing} missing {hash}")?)
 }
 
 /// The digests of the blocks, in order.
