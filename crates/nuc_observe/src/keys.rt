@@ -126,8 +126,8 @@ impl Keys {
         self.change(id, Some(key))
     }
 
-    /// Takes an identity's key. Where it has none nothing changes, but it is noted as a change. It wants memory only when
-    /// `spare` is 0.
+    /// Takes an identity's key from it. Where it has none nothing changes, but that is noted as a change too. It wants
+    /// memory only when `spare` is 0.
     pub fn cut(&mut self, id: NodeId) -> Result<(), AllocError>
         ensures now { OnOk result (self.new.now ≡ map.remove self.old.now id.0) }
         ensures absent { map.get self.old.now id.0 ≡ None → self.new.now ≡ self.old.now }
