@@ -1,4 +1,4 @@
-use Rattle.std.specs.Prelude.{◌≡◌, ◌+◌, ◌-◌, ◌≤◌, ℕ, All, List, [], ◌∷◌, length, min, refl}
+use Rattle.std.specs.Prelude.{◌≡◌, ◌+◌, ◌-◌, ◌≤◌, ℕ, All, List, [], ◌∷◌, ◌++◌, length, min, refl}
 use Rattle.std.specs.Coded.{Coded, code_by, coded×, coded_ℕ, coded_list}
 use Rattle.std.specs.FinMap as map
 use Rattle.nuc_observe.specs.Keys.{AreKeys, KeyMap}
@@ -25,6 +25,10 @@ first_or (first ∷ past) m = first
 -- the keys of the last settling
 abbrev pub settled_of : KeysState → KeyMap
 settled_of s = first_or s.past s.now
+
+-- the last of the past is taken away, and is what there is now
+abbrev pub LeadsToLast : KeysState → KeysState → Type 0
+LeadsToLast old new = (older : List KeyMap) (before : KeyMap) → old.past ≡ older ++ before ∷ [] → (new.past ≡ older) × (new.now ≡ before)
 
 -- how many changes more have room: each may add a row, and is noted
 abbrev pub spare_of : ℕ → ℕ → ℕ → ℕ → ℕ

@@ -1,6 +1,6 @@
-ghost use Rattle.std.specs.Prelude.{◌≡◌, ◌+◌, ◌<◌, ◌≤◌, ◌↔◌, [], ◌∷◌, ◌++◌, List, None, ℕ, All, option_map, IfOk, IfSome, IsOk, IsTrue, MatchOption, OnOk, OnErr};
+ghost use Rattle.std.specs.Prelude.{◌≡◌, ◌+◌, ◌<◌, ◌≤◌, ◌↔◌, [], ◌∷◌, ◌++◌, None, ℕ, All, length, option_map, IfOk, IfSome, IsOk, IsTrue, MatchOption, OnOk, OnErr};
 ghost use Rattle.std.specs.FinMap as map;
-ghost use Rattle.nuc_observe.specs.Keys.{AreBindings, AreKeys, HasAlone, IsFree, IsUnheld, KeyMap, key_map, with_key};
+ghost use Rattle.nuc_observe.specs.Keys.{AreBindings, AreKeys, HasAlone, IsFree, IsUnheld, key_map, with_key};
 
 use crate::Binding;
 use crate::pairing::Pairing;
@@ -40,7 +40,7 @@ impl Model for Keys {
     ghost invariant = { λ k. IsKept k.pairing k.undos.items k.settled_len };
 }
 
-ghost use Rattle.nuc_observe.specs.State.{settled_of};
+ghost use Rattle.nuc_observe.specs.State.{LeadsToLast, settled_of};
 
 impl Keys {
     /// No keys, in no memory.
@@ -126,8 +126,8 @@ impl Keys {
         self.change(id, Some(key))
     }
 
-    /// Takes an identity's key. Where it has none nothing changes, but it is noted as a change. It wants memory only when
-    /// `spare` is 0.
+    /// Takes an identity's key from it. Where it has none nothing changes, but that is noted as a change too. It wants
+    /// memory only when `spare` is 0.
     pub fn cut(&mut self, id: NodeId) -> Result<(), AllocError>
         ensures now { OnOk result (self.new.now ≡ map.remove self.old.now id.0) }
         ensures absent { map.get self.old.now id.0 ≡ None → self.new.now ≡ self.old.now }
@@ -162,9 +162,10 @@ impl Keys {
 
     /// Takes the last change back, if there was one since `settle`. It takes no memory.
     pub fn undo_last(&mut self)
-        ensures last { (before : KeyMap) (older : List KeyMap) → self.old.past ≡ older ++ before ∷ [] → (self.new.now ≡ before) × (self.new.past ≡ older) × (self.old.spare < self.new.spare) }
+        ensures last { LeadsToLast self.old self.new }
         ensures none { self.old.past ≡ [] → self.new ≡ self.old }
         ensures settled { settled_of self.new ≡ settled_of self.old }
+        ensures spare { self.old.spare + length self.old.past ≤ self.new.spare + length self.new.past }
     {
         if let Some(Undo { id, before }) = self.undos.pop() {
             self.pairing.set(id, before);
@@ -181,11 +182,12 @@ impl Keys {
         self.settled_len = self.pairing.len();
     }
 
-    /// Takes back all changes since `settle` was last called, or since the keys were made. It takes no memory.
+    /// Takes back all changes since `settle` was last called, or since the keys were made. It takes no memory, and as many
+    /// changes can be made again without memory.
     pub fn back(&mut self)
         ensures now { self.new.now ≡ settled_of self.old }
         ensures past { self.new.past ≡ [] }
-        ensures spare { self.old.spare ≤ self.new.spare }
+        ensures spare { self.old.spare + length self.old.past ≤ self.new.spare }
     {
         for _ in 0..self.undos.len() {
             self.undo_last();

@@ -9,21 +9,23 @@ loop-init c =
     let undos = c.self.inside.undos.ok.0 in
     record {
       settled = refl;
-      left = omega (arith, past, same, undos, c.len-end.ensures);
+      end = omega (arith, past, same, undos, c.len-end.ensures);
+      left = omega arith;
       spare = omega arith;
     }
 
 pub loop-preserved : goal.loop-preserved
 loop-preserved c =
-    let past = c.loop.self.past in
     let left = c.loop.invariant.left in
-    let some = ended past (omega (arith, c.loop-test.true)) in
-    let done = c.undo_last.ensures.last some.1 some.0 some.2 in
+    let end = c.loop.invariant.end in
+    let some = ended c.loop.self.past (omega (arith, c.loop-test.true)) in
+    let done = c.undo_last.ensures.last some.0 some.1 some.2 in
     let long = ap length some.2 ∙ length-append some.0 (some.1 ∷ []) in
-    let fewer = ap length done.1 in
+    let fewer = ap length done.0 in
     let before = c.loop.invariant.spare in
     record {
       settled = c.undo_last.ensures.settled ∙ c.loop.invariant.settled;
+      end = end;
       left = omega (arith, long, fewer);
-      spare = omega (arith, done.2);
+      spare = omega (arith, long, fewer, c.undo_last.ensures.spare);
     }

@@ -1,7 +1,7 @@
 use Rattle.std.proofs.Common.{ap, ◌∙◌, sym, arith, length, ◌∷◌, [], length-append, vec_capacity}
 use Rattle.nuc_observe.specs.State.{first_or}
 use Rattle.nuc_observe.specs.Undo.{past_of, undone}
-use Rattle.nuc_observe.proofs.Undoing.{first_is, leads_back, same_ends, spare_rises}
+use Rattle.nuc_observe.proofs.Undoing.{first_is, leads_back, length_past, same_ends, spare_rises}
 use Rattle.nuc_observe.proofs.keys.Keys.undo_last.Goals as goal
 
 pub set-requires-clause-free : goal.set-requires-clause-free
@@ -18,17 +18,24 @@ invariant_of-self c =
     c.set.new.self c.set.ensures.numbers c.set.ensures.room
 
 pub returns-in-Some-clause-last : goal.returns-in-Some-clause-last
-returns-in-Some-clause-last c before older is =
+returns-in-Some-clause-last c older before is =
     let back = leads_back c.self.inside.pairing c.self.inside.undos.items c.pop.new.self.items c.self.inside.settled_len c.in-Some.field-0 c.self.invariant c.in-Some.ensures.items in
     let m = undone c.self.inside.pairing.numbers c.in-Some.field-0 in
     let ends = same_ends (past_of m c.pop.new.self.items) older m before (sym back.past ∙ ap (λ s. s.past) c.self.view_is ∙ is) in
+    (ap (λ m. past_of m c.pop.new.self.items) c.set.ensures.numbers ∙ ends.0, c.set.ensures.numbers ∙ ends.1)
+
+pub returns-in-Some-clause-spare : goal.returns-in-Some-clause-spare
+returns-in-Some-clause-spare c =
     let long = ap length c.in-Some.ensures.items ∙ length-append c.pop.new.self.items (c.in-Some.field-0 ∷ []) in
     let kept = c.set.ensures.room in
     let cap = c.pop.ensures.capacity in
     let size = c.self.inside.undos.ok in
     let rises = spare_rises c.self.inside.pairing.room (vec_capacity c.self.inside.undos) c.self.inside.settled_len _ _ long c.self.invariant.room (omega (arith, size.0, size.1)) in
     let spare = ap (λ s. s.spare) c.self.view_is in
-    (c.set.ensures.numbers ∙ ends.1, ap (λ m. past_of m c.pop.new.self.items) c.set.ensures.numbers ∙ ends.0, omega arith)
+    let before = ap (λ s. length s.past) c.self.view_is in
+    let many = length_past c.self.inside.pairing.numbers c.self.inside.undos.items in
+    let fewer = length_past c.set.new.self.numbers c.pop.new.self.items in
+    omega arith
 
 pub returns-in-Some-clause-settled : goal.returns-in-Some-clause-settled
 returns-in-Some-clause-settled c =
