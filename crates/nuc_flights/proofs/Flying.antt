@@ -6,9 +6,9 @@ use Rattle.std.proofs.Math.ListN.{set}
 use Rattle.std.proofs.lemmas.List.Quantifiers.{position-Some}
 use Rattle.nuc_folder.proofs.Inserts.{position-None}
 use Rattle.nuc_class.specs.declared.op.Op.{Op}
-use Rattle.nuc_flights.specs.Flights.{Flight, IsPlanned, IsStarted, IsTaken, Stage, StandsAt, landing_at, landing_of, planned, started, taken, flight_of, staged, without}
-use Rattle.nuc_flights.specs.Slots.{CameBefore, Finds, IsEarly, here, there, HasLanding, IsSound, away_slot, back_slot, is_kept, settled_slot, flies, flight_at, flight_now, flight_was, flights_now, flights_were, is_flying, stage_at}
-use Rattle.nuc_flights.specs.declared.landing.Landing.{Landing}
+use Rattle.nuc_flights.specs.Flights.{Flight, IsPlanned, IsStarted, IsTaken, Stage, StandsAt, taken_at, taken_of, planned, started, taken, flight_of, staged, without}
+use Rattle.nuc_flights.specs.Slots.{CameBefore, Finds, IsEarly, here, there, HasOutcome, IsSound, away_slot, back_slot, is_kept, settled_slot, flies, flight_at, flight_now, flight_was, flights_now, flights_were, is_flying, stage_at}
+use Rattle.nuc_flights.specs.declared.taken.Taken.{Taken}
 use Rattle.nuc_flights.specs.declared.slot.Level.{Level}
 use Rattle.nuc_flights.specs.declared.slot.Level.TheVariants as level
 use Rattle.nuc_flights.specs.declared.slot.Slot.{Slot}
@@ -28,45 +28,45 @@ both_true : (a b : Bool) → (a && b) ≡ true → (a ≡ true) × (b ≡ true)
 both_true true b is = (refl, is)
 both_true false b is = cc
 
-numbered_else : (n : ℕ) (op : Op) (l : Level) (landing : Option Landing) (f : Flight) → (is_flying l && (op.number == n)) ≡ false
-    → flight_at op (stage_at l landing) ≡ Some f → (f.op.number == n) ≡ false
-numbered_else n op level.Away landing f miss is = cc
-numbered_else n op level.Planned landing f miss is = let same : op ≡ f.op = cc in ap (λ (o : Op). o.number == n) (sym same) ∙ miss
-numbered_else n op level.Started landing f miss is = let same : op ≡ f.op = cc in ap (λ (o : Op). o.number == n) (sym same) ∙ miss
-numbered_else n op level.Taken (Some landing) f miss is = let same : op ≡ f.op = cc in ap (λ (o : Op). o.number == n) (sym same) ∙ miss
+numbered_else : (n : ℕ) (op : Op) (l : Level) (came : Option Taken) (f : Flight) → (is_flying l && (op.number == n)) ≡ false
+    → flight_at op (stage_at l came) ≡ Some f → (f.op.number == n) ≡ false
+numbered_else n op level.Away came f miss is = cc
+numbered_else n op level.Planned came f miss is = let same : op ≡ f.op = cc in ap (λ (o : Op). o.number == n) (sym same) ∙ miss
+numbered_else n op level.Started came f miss is = let same : op ≡ f.op = cc in ap (λ (o : Op). o.number == n) (sym same) ∙ miss
+numbered_else n op level.Taken (Some came) f miss is = let same : op ≡ f.op = cc in ap (λ (o : Op). o.number == n) (sym same) ∙ miss
 numbered_else n op level.Taken None f miss is = cc
 
 -- the first flight isn't of the number, if there is one
 skips : (n : ℕ) (s : Slot) (fs : List Flight) → flies n s ≡ false → flight_of n (cons_option (flight_now s) fs) ≡ flight_of n fs
 skips n s fs miss = elim (flight_now s) as (λ o. flight_now s ≡ o → flight_of n (cons_option o fs) ≡ flight_of n fs) [
   | None ↦ λ _. refl
-  | Some f ↦ λ is. ap (λ b. cond b (Some f) (flight_of n fs)) (numbered_else n s.op s.at s.landing f miss is)
+  | Some f ↦ λ is. ap (λ b. cond b (Some f) (flight_of n fs)) (numbered_else n s.op s.at s.came f miss is)
 ] refl
 
 skips_staged : (n : ℕ) (stage : Stage) (s : Slot) (fs : List Flight) → flies n s ≡ false
     → staged n stage (cons_option (flight_now s) fs) ≡ cons_option (flight_now s) (staged n stage fs)
 skips_staged n stage s fs miss = elim (flight_now s) as (λ o. flight_now s ≡ o → staged n stage (cons_option o fs) ≡ cons_option o (staged n stage fs)) [
   | None ↦ λ _. refl
-  | Some f ↦ λ is. ap (λ b. cond b (record f { stage = stage } ∷ fs) (f ∷ staged n stage fs)) (numbered_else n s.op s.at s.landing f miss is)
+  | Some f ↦ λ is. ap (λ b. cond b (record f { stage = stage } ∷ fs) (f ∷ staged n stage fs)) (numbered_else n s.op s.at s.came f miss is)
 ] refl
 
 skips_without : (n : ℕ) (s : Slot) (fs : List Flight) → flies n s ≡ false
     → without n (cons_option (flight_now s) fs) ≡ cons_option (flight_now s) (without n fs)
 skips_without n s fs miss = elim (flight_now s) as (λ o. flight_now s ≡ o → without n (cons_option o fs) ≡ cons_option o (without n fs)) [
   | None ↦ λ _. refl
-  | Some f ↦ λ is. ap (λ b. cond b fs (f ∷ without n fs)) (numbered_else n s.op s.at s.landing f miss is)
+  | Some f ↦ λ is. ap (λ b. cond b fs (f ∷ without n fs)) (numbered_else n s.op s.at s.came f miss is)
 ] refl
 
 -- THE SLOT THAT IS MEANT, at the stage old
-pub flight_is : (n : ℕ) (slots : List Slot) (i : ℕ) (s : Slot) (old : Stage) → Finds n slots i s → stage_at s.at s.landing ≡ Some old
+pub flight_is : (n : ℕ) (slots : List Slot) (i : ℕ) (s : Slot) (old : Stage) → Finds n slots i s → stage_at s.at s.came ≡ Some old
     → flight_of n (flights_now slots) ≡ Some (record { op = s.op; stage = old })
 flight_is n _ _ _ old (here s ss hits) is =
     ap (λ o. flight_of n (cons_option (flight_at s.op o) (flights_now ss))) is
     ∙ ap (λ b. cond b (Some (record { op = s.op; stage = old })) (flight_of n (flights_now ss))) (both_true (is_flying s.at) (s.op.number == n) hits).1
 flight_is n _ _ _ old (there s t ss i miss rest) is = skips n s (flights_now ss) miss ∙ flight_is n ss i t old rest is
 
-pub staged_is : (n : ℕ) (slots : List Slot) (i : ℕ) (s t : Slot) (old new : Stage) → Finds n slots i s → stage_at s.at s.landing ≡ Some old
-    → t.op ≡ s.op → stage_at t.at t.landing ≡ Some new → flights_now (set slots i t) ≡ staged n new (flights_now slots)
+pub staged_is : (n : ℕ) (slots : List Slot) (i : ℕ) (s t : Slot) (old new : Stage) → Finds n slots i s → stage_at s.at s.came ≡ Some old
+    → t.op ≡ s.op → stage_at t.at t.came ≡ Some new → flights_now (set slots i t) ≡ staged n new (flights_now slots)
 staged_is n _ _ _ t old new (here s ss hits) is same now =
     ap (λ o. cons_option (flight_at t.op o) (flights_now ss)) now
     ∙ ap (λ (op : Op). record { op = op; stage = new } ∷ flights_now ss) same
@@ -76,8 +76,8 @@ staged_is n _ _ _ t old new (here s ss hits) is same now =
 staged_is n _ _ _ t old new (there s u ss i miss rest) is same now =
     ap (cons_option (flight_now s)) (staged_is n ss i u t old new rest is same now) ∙ sym (skips_staged n new s (flights_now ss) miss)
 
-pub without_is : (n : ℕ) (slots : List Slot) (i : ℕ) (s t : Slot) (old : Stage) → Finds n slots i s → stage_at s.at s.landing ≡ Some old
-    → stage_at t.at t.landing ≡ None → flights_now (set slots i t) ≡ without n (flights_now slots)
+pub without_is : (n : ℕ) (slots : List Slot) (i : ℕ) (s t : Slot) (old : Stage) → Finds n slots i s → stage_at s.at s.came ≡ Some old
+    → stage_at t.at t.came ≡ None → flights_now (set slots i t) ≡ without n (flights_now slots)
 without_is n _ _ _ t old (here s ss hits) is gone =
     ap (λ o. cons_option (flight_at t.op o) (flights_now ss)) gone
     ∙ sym (ap (λ o. without n (cons_option (flight_at s.op o) (flights_now ss))) is
@@ -114,22 +114,22 @@ none_found n slots i s none finds =
     let clash : true ≡ false = sym (finds_hit n slots i s finds) ∙ ap (flies n) (sym (finds_at n slots i s s finds)) ∙ missed in cc
 
 -- a slot in flight has a stage
-staged_by : (l : Level) (landing : Option Landing) → HasLanding l landing → is_flying l ≡ true → (stage : Stage) × (stage_at l landing ≡ Some stage)
-staged_by level.Away landing has flying = cc
-staged_by level.Planned landing has flying = (planned, refl)
-staged_by level.Started landing has flying = (started, refl)
-staged_by level.Taken (Some landing) has flying = (taken landing, refl)
+staged_by : (l : Level) (came : Option Taken) → HasOutcome l came → is_flying l ≡ true → (stage : Stage) × (stage_at l came ≡ Some stage)
+staged_by level.Away came has flying = cc
+staged_by level.Planned came has flying = (planned, refl)
+staged_by level.Started came has flying = (started, refl)
+staged_by level.Taken (Some came) has flying = (taken came, refl)
 staged_by level.Taken None has flying = absurd has
 
-pub stage_of : (n : ℕ) (s : Slot) → IsSound s → flies n s ≡ true → (stage : Stage) × (stage_at s.at s.landing ≡ Some stage)
-stage_of n s sound hits = staged_by s.at s.landing sound.now (both_true (is_flying s.at) (s.op.number == n) hits).0
+pub stage_of : (n : ℕ) (s : Slot) → IsSound s → flies n s ≡ true → (stage : Stage) × (stage_at s.at s.came ≡ Some stage)
+stage_of n s sound hits = staged_by s.at s.came sound.now (both_true (is_flying s.at) (s.op.number == n) hits).0
 
 -- a flight of the number is that of the slot that is found
 pub record IsOf (n : ℕ) (slots : List Slot) (f : Flight) : Type 0 where
   pub place : ℕ
   pub slot : Slot
   pub finds : Finds n slots place slot
-  pub stage : stage_at slot.at slot.landing ≡ Some f.stage
+  pub stage : stage_at slot.at slot.came ≡ Some f.stage
   pub op : f.op ≡ slot.op
 
 pub flight_found : (n : ℕ) (slots : List Slot) (f : Flight) → All IsSound slots → flight_of n (flights_now slots) ≡ Some f → IsOf n slots f
@@ -204,17 +204,17 @@ away_were [] = refl
 away_were (x ∷ xs) = ap (cons_option (flight_was x)) (away_were xs)
 
 -- a slot that is dropped has no flight
-nobody : (op : Op) (l : Level) (landing : Option Landing) → is_flying l ≡ false → flight_at op (stage_at l landing) ≡ None
-nobody op level.Away landing is = refl
-nobody op level.Planned landing is = cc
-nobody op level.Started landing is = cc
-nobody op level.Taken landing is = cc
+nobody : (op : Op) (l : Level) (came : Option Taken) → is_flying l ≡ false → flight_at op (stage_at l came) ≡ None
+nobody op level.Away came is = refl
+nobody op level.Planned came is = cc
+nobody op level.Started came is = cc
+nobody op level.Taken came is = cc
 
 pub kept_now : (xs : List Slot) → flights_now (filter is_kept xs) ≡ flights_now xs
 kept_now [] = refl
 kept_now (x ∷ xs) = elim (is_kept x) as (λ b. is_kept x ≡ b → flights_now (cond b (x ∷ filter is_kept xs) (filter is_kept xs)) ≡ flights_now (x ∷ xs)) [
   | true ↦ λ _. ap (cons_option (flight_now x)) (kept_now xs)
-  | false ↦ λ off. kept_now xs ∙ sym (ap (λ o. cons_option o (flights_now xs)) (nobody x.op x.at x.landing off))
+  | false ↦ λ off. kept_now xs ∙ sym (ap (λ o. cons_option o (flights_now xs)) (nobody x.op x.at x.came off))
 ] refl
 
 same_now : (xs : List Slot) → flights_now (map settled_slot xs) ≡ flights_now xs
@@ -228,7 +228,7 @@ settled_now xs = kept_now (map settled_slot xs) ∙ same_now xs
 alike : (xs : List Slot) → All (λ s. s.was ≡ s.at) xs → flights_were xs ≡ flights_now xs
 alike [] same = refl
 alike (x ∷ xs) same =
-    ap (λ l. cons_option (flight_at x.op (stage_at l x.landing)) (flights_were xs)) (same 0 x (omega arith))
+    ap (λ l. cons_option (flight_at x.op (stage_at l x.came)) (flights_were xs)) (same 0 x (omega arith))
     ∙ ap (cons_option (flight_now x)) (alike xs (λ k d below. same (suc k) d (omega arith)))
 
 settled_alike : (xs : List Slot) → flights_were (filter is_kept (map settled_slot xs)) ≡ flights_now (filter is_kept (map settled_slot xs))
@@ -309,64 +309,64 @@ behind_none [] = refl
 behind_none (f ∷ fs) = ap (λ fs. f ∷ fs) (behind_none fs)
 
 -- THE STAGE by the level, and the level by the stage
-pub planned_stage : (s : Slot) → s.at ≡ level.Planned → stage_at s.at s.landing ≡ Some planned
-planned_stage s is = ap (λ l. stage_at l s.landing) is
+pub planned_stage : (s : Slot) → s.at ≡ level.Planned → stage_at s.at s.came ≡ Some planned
+planned_stage s is = ap (λ l. stage_at l s.came) is
 
-pub started_stage : (s : Slot) → s.at ≡ level.Started → stage_at s.at s.landing ≡ Some started
-started_stage s is = ap (λ l. stage_at l s.landing) is
+pub started_stage : (s : Slot) → s.at ≡ level.Started → stage_at s.at s.came ≡ Some started
+started_stage s is = ap (λ l. stage_at l s.came) is
 
-taken_by : (landing : Option Landing) → HasLanding level.Taken landing → (x : Landing) × (landing ≡ Some x)
+taken_by : (came : Option Taken) → HasOutcome level.Taken came → (x : Taken) × (came ≡ Some x)
 taken_by (Some x) has = (x, refl)
 taken_by None has = absurd has
 
-pub taken_landing : (s : Slot) → IsSound s → s.at ≡ level.Taken → (x : Landing) × (s.landing ≡ Some x)
-taken_landing s sound is = taken_by s.landing (subst (λ l. HasLanding l s.landing) is sound.now)
+pub taken_came : (s : Slot) → IsSound s → s.at ≡ level.Taken → (x : Taken) × (s.came ≡ Some x)
+taken_came s sound is = taken_by s.came (subst (λ l. HasOutcome l s.came) is sound.now)
 
-pub taken_stage : (s : Slot) (x : Landing) → s.at ≡ level.Taken → s.landing ≡ Some x → stage_at s.at s.landing ≡ Some (taken x)
-taken_stage s x is has = ap (λ l. stage_at l s.landing) is ∙ ap (stage_at level.Taken) has
+pub taken_stage : (s : Slot) (x : Taken) → s.at ≡ level.Taken → s.came ≡ Some x → stage_at s.at s.came ≡ Some (taken x)
+taken_stage s x is has = ap (λ l. stage_at l s.came) is ∙ ap (stage_at level.Taken) has
 
-pub planned_level : (l : Level) (landing : Option Landing) (stage : Stage) → stage_at l landing ≡ Some stage → IsPlanned stage → l ≡ level.Planned
-planned_level level.Away landing stage is at = cc
-planned_level level.Planned landing stage is at = refl
-planned_level level.Started landing stage is at = let same : started ≡ stage = cc in absurd (subst IsPlanned (sym same) at)
+pub planned_level : (l : Level) (came : Option Taken) (stage : Stage) → stage_at l came ≡ Some stage → IsPlanned stage → l ≡ level.Planned
+planned_level level.Away came stage is at = cc
+planned_level level.Planned came stage is at = refl
+planned_level level.Started came stage is at = let same : started ≡ stage = cc in absurd (subst IsPlanned (sym same) at)
 planned_level level.Taken (Some x) stage is at = let same : taken x ≡ stage = cc in absurd (subst IsPlanned (sym same) at)
 planned_level level.Taken None stage is at = cc
 
-pub started_level : (l : Level) (landing : Option Landing) (stage : Stage) → stage_at l landing ≡ Some stage → IsStarted stage → l ≡ level.Started
-started_level level.Away landing stage is at = cc
-started_level level.Planned landing stage is at = let same : planned ≡ stage = cc in absurd (subst IsStarted (sym same) at)
-started_level level.Started landing stage is at = refl
+pub started_level : (l : Level) (came : Option Taken) (stage : Stage) → stage_at l came ≡ Some stage → IsStarted stage → l ≡ level.Started
+started_level level.Away came stage is at = cc
+started_level level.Planned came stage is at = let same : planned ≡ stage = cc in absurd (subst IsStarted (sym same) at)
+started_level level.Started came stage is at = refl
 started_level level.Taken (Some x) stage is at = let same : taken x ≡ stage = cc in absurd (subst IsStarted (sym same) at)
 started_level level.Taken None stage is at = cc
 
-pub taken_level : (l : Level) (landing : Option Landing) (stage : Stage) → stage_at l landing ≡ Some stage → IsTaken stage → l ≡ level.Taken
-taken_level level.Away landing stage is at = cc
-taken_level level.Planned landing stage is at = let same : planned ≡ stage = cc in absurd (subst IsTaken (sym same) at)
-taken_level level.Started landing stage is at = let same : started ≡ stage = cc in absurd (subst IsTaken (sym same) at)
-taken_level level.Taken landing stage is at = refl
+pub taken_level : (l : Level) (came : Option Taken) (stage : Stage) → stage_at l came ≡ Some stage → IsTaken stage → l ≡ level.Taken
+taken_level level.Away came stage is at = cc
+taken_level level.Planned came stage is at = let same : planned ≡ stage = cc in absurd (subst IsTaken (sym same) at)
+taken_level level.Started came stage is at = let same : started ≡ stage = cc in absurd (subst IsTaken (sym same) at)
+taken_level level.Taken came stage is at = refl
 
 -- nobody stands at a stage whose level no slot of the number has
 pub absent : (n : ℕ) (slots : List Slot) (At : Stage → Type 0) (l : Level) → All IsSound slots
-    → ((m : Level) (landing : Option Landing) (stage : Stage) → stage_at m landing ≡ Some stage → At stage → m ≡ l)
+    → ((m : Level) (came : Option Taken) (stage : Stage) → stage_at m came ≡ Some stage → At stage → m ≡ l)
     → ((i : ℕ) (s : Slot) → Finds n slots i s → s.at ≢ l) → ¬ (StandsAt n At (flights_now slots))
 absent n slots At l sound levels none = λ stands.
     elim (flight_of n (flights_now slots)) as (λ o. flight_of n (flights_now slots) ≡ o → IsSomeAnd o (λ f. At f.stage) → ⊥) [
       | None ↦ λ _ at. at
-      | Some f ↦ λ is at. let of = flight_found n slots f sound is in none of.place of.slot of.finds (levels of.slot.at of.slot.landing f.stage of.stage at)
+      | Some f ↦ λ is at. let of = flight_found n slots f sound is in none of.place of.slot of.finds (levels of.slot.at of.slot.came f.stage of.stage at)
     ] refl stands
 
-pub stands : (n : ℕ) (slots : List Slot) (i : ℕ) (s : Slot) (stage : Stage) (At : Stage → Type 0) → Finds n slots i s → stage_at s.at s.landing ≡ Some stage → At stage
+pub stands : (n : ℕ) (slots : List Slot) (i : ℕ) (s : Slot) (stage : Stage) (At : Stage → Type 0) → Finds n slots i s → stage_at s.at s.came ≡ Some stage → At stage
     → StandsAt n At (flights_now slots)
 stands n slots i s stage At finds is at = subst (λ o. IsSomeAnd o (λ f. At f.stage)) (sym (flight_is n slots i s stage finds is)) at
 
-not_taken : (stage : Stage) → ¬ (IsTaken stage) → landing_at stage ≡ None
+not_taken : (stage : Stage) → ¬ (IsTaken stage) → taken_at stage ≡ None
 not_taken planned other = refl
 not_taken started other = refl
 not_taken (taken x) other = absurd (other tt)
 
--- who isn't taken has no landing
-pub no_landing : (n : ℕ) (fs : List Flight) → ¬ (StandsAt n IsTaken fs) → landing_of (flight_of n fs) ≡ None
-no_landing n fs none = elim (flight_of n fs) as (λ o. ¬ (IsSomeAnd o (λ f. IsTaken f.stage)) → landing_of o ≡ None) [
+-- who isn't taken has no came
+pub none_taken : (n : ℕ) (fs : List Flight) → ¬ (StandsAt n IsTaken fs) → taken_of (flight_of n fs) ≡ None
+none_taken n fs none = elim (flight_of n fs) as (λ o. ¬ (IsSomeAnd o (λ f. IsTaken f.stage)) → taken_of o ≡ None) [
   | None ↦ λ _. refl
   | Some f ↦ λ other. not_taken f.stage other
 ] none
@@ -387,20 +387,20 @@ start_sound s sound is = record { now = tt; then = sound.then; order = early_of 
 pub finish_sound : (s : Slot) → IsSound s → IsSound (record s { at = level.Away })
 finish_sound s sound = record { now = tt; then = sound.then; order = tt }
 
-early_has : (l : Level) (landing : Option Landing) → IsEarly l → HasLanding l landing
-early_has level.Away landing early = tt
-early_has level.Planned landing early = tt
-early_has level.Started landing early = tt
-early_has level.Taken landing early = absurd early
+early_has : (l : Level) (came : Option Taken) → IsEarly l → HasOutcome l came
+early_has level.Away came early = tt
+early_has level.Planned came early = tt
+early_has level.Started came early = tt
+early_has level.Taken came early = absurd early
 
-pub land_sound : (s : Slot) (x : Landing) → IsSound s → s.at ≡ level.Started → IsSound (record s { at = level.Taken; landing = Some x })
+pub land_sound : (s : Slot) (x : Taken) → IsSound s → s.at ≡ level.Started → IsSound (record s { at = level.Taken; came = Some x })
 land_sound s x sound is = record { now = tt; then = early_has s.was (Some x) (early_of s level.Started is (λ e. e) sound); order = tt }
 
-was_early : (op : Op) (l : Level) (a b : Option Landing) → IsEarly l → flight_at op (stage_at l a) ≡ flight_at op (stage_at l b)
+was_early : (op : Op) (l : Level) (a b : Option Taken) → IsEarly l → flight_at op (stage_at l a) ≡ flight_at op (stage_at l b)
 was_early op level.Away a b early = refl
 was_early op level.Planned a b early = refl
 was_early op level.Started a b early = refl
 was_early op level.Taken a b early = absurd early
 
-pub land_was : (s : Slot) (x : Landing) → IsSound s → s.at ≡ level.Started → flight_was (record s { at = level.Taken; landing = Some x }) ≡ flight_was s
-land_was s x sound is = was_early s.op s.was (Some x) s.landing (early_of s level.Started is (λ e. e) sound)
+pub land_was : (s : Slot) (x : Taken) → IsSound s → s.at ≡ level.Started → flight_was (record s { at = level.Taken; came = Some x }) ≡ flight_was s
+land_was s x sound is = was_early s.op s.was (Some x) s.came (early_of s level.Started is (λ e. e) sound)

@@ -1,13 +1,13 @@
 -- The operations in flight, as a caller sees them.
 use Rattle.std.specs.Prelude.{◌==◌, ℕ, cond, List, [], ◌∷◌, Option, None, Some, IsSomeAnd}
 use Rattle.nuc_class.specs.declared.op.Op.{Op}
-use Rattle.nuc_flights.specs.declared.landing.Landing.{Landing}
+use Rattle.nuc_flights.specs.declared.taken.Taken.{Taken}
 
 -- how far an operation has come; one that was taken has what came of its outside change
 pub data Stage : Type 0 where
   planned : Stage
   started : Stage
-  taken : Landing → Stage
+  taken : Taken → Stage
 
 pub record Flight : Type 0 where
   pub op : Op
@@ -50,15 +50,15 @@ abbrev pub StandsAt : ℕ → (Stage → Type 0) → List Flight → Type 0
 StandsAt n At fs = IsSomeAnd (flight_of n fs) (λ f. At f.stage)
 
 abbrev pub IsTaken : Stage → Type 0
-IsTaken (taken landing) = Unit {0}
+IsTaken (taken came) = Unit {0}
 IsTaken _ = ⊥
 
 -- what came of its outside change, where it was taken
-abbrev pub landing_at : Stage → Option Landing
-landing_at planned = None
-landing_at started = None
-landing_at (taken landing) = Some landing
+abbrev pub taken_at : Stage → Option Taken
+taken_at planned = None
+taken_at started = None
+taken_at (taken came) = Some came
 
-abbrev pub landing_of : Option Flight → Option Landing
-landing_of None = None
-landing_of (Some f) = landing_at f.stage
+abbrev pub taken_of : Option Flight → Option Taken
+taken_of None = None
+taken_of (Some f) = taken_at f.stage

@@ -3,17 +3,17 @@ use Rattle.std.specs.Prelude.{◌≡◌, ◌==◌, ◌&&◌, ℕ, suc, Bool, tru
 use Rattle.std.specs.List.{filter_map}
 use Rattle.nuc_class.specs.declared.op.Op.{Op}
 use Rattle.nuc_flights.specs.Flights.{Flight, Stage, planned, started, taken}
-use Rattle.nuc_flights.specs.declared.landing.Landing.{Landing}
+use Rattle.nuc_flights.specs.declared.taken.Taken.{Taken}
 use Rattle.nuc_flights.specs.declared.slot.Level.{Level}
 use Rattle.nuc_flights.specs.declared.slot.Level.TheVariants as level
 use Rattle.nuc_flights.specs.declared.slot.Slot.{Slot}
 
 -- the stage at a level, none where the operation isn't in flight
-abbrev pub stage_at : Level → Option Landing → Option Stage
-stage_at level.Away landing = None
-stage_at level.Planned landing = Some planned
-stage_at level.Started landing = Some started
-stage_at level.Taken (Some landing) = Some (taken landing)
+abbrev pub stage_at : Level → Option Taken → Option Stage
+stage_at level.Away came = None
+stage_at level.Planned came = Some planned
+stage_at level.Started came = Some started
+stage_at level.Taken (Some came) = Some (taken came)
 stage_at level.Taken None = None
 
 abbrev pub flight_at : Op → Option Stage → Option Flight
@@ -21,10 +21,10 @@ flight_at op None = None
 flight_at op (Some stage) = Some (record { op = op; stage = stage })
 
 abbrev pub flight_now : Slot → Option Flight
-flight_now s = flight_at s.op (stage_at s.at s.landing)
+flight_now s = flight_at s.op (stage_at s.at s.came)
 
 abbrev pub flight_was : Slot → Option Flight
-flight_was s = flight_at s.op (stage_at s.was s.landing)
+flight_was s = flight_at s.op (stage_at s.was s.came)
 
 abbrev pub flights_now : List Slot → List Flight
 flights_now slots = filter_map flight_now slots
@@ -40,10 +40,10 @@ IsEarly level.Started = Unit {0}
 IsEarly level.Taken = ⊥
 
 -- what was taken has what came of it
-abbrev pub HasLanding : Level → Option Landing → Type 0
-HasLanding level.Taken (Some landing) = Unit {0}
-HasLanding level.Taken None = ⊥
-HasLanding _ landing = Unit {0}
+abbrev pub HasOutcome : Level → Option Taken → Type 0
+HasOutcome level.Taken (Some came) = Unit {0}
+HasOutcome level.Taken None = ⊥
+HasOutcome _ came = Unit {0}
 
 -- where it is planned or started now, it hadn't been taken then
 abbrev pub CameBefore : Level → Level → Type 0
@@ -53,8 +53,8 @@ CameBefore was level.Away = Unit {0}
 CameBefore was level.Taken = Unit {0}
 
 pub record IsSound (s : Slot) : Type 0 where
-  pub now : HasLanding s.at s.landing
-  pub then : HasLanding s.was s.landing
+  pub now : HasOutcome s.at s.came
+  pub then : HasOutcome s.was s.came
   pub order : CameBefore s.was s.at
 
 abbrev pub is_flying : Level → Bool

@@ -1,11 +1,11 @@
 ghost use Rattle.std.specs.Prelude.{◌≡◌, ◌≢◌, ◌++◌, ◌∷◌, [], ℕ, map, MatchBool, MatchOption, OnOk, OnErr};
 ghost use Rattle.std.specs.List.{filter, position};
 ghost use Rattle.std.specs.Option.{option_copied, option_map};
-ghost use Rattle.nuc_flights.specs.Flights.{IsPlanned, IsStarted, IsTaken, StandsAt, as_planned, flight_of, landing_of, staged, taken, started, without};
+ghost use Rattle.nuc_flights.specs.Flights.{IsPlanned, IsStarted, IsTaken, StandsAt, as_planned, flight_of, taken_of, staged, taken, started, without};
 ghost use Rattle.nuc_flights.specs.Slots.{Finds, away_slot, back_slot, flies, is_kept, settled_slot};
 ghost use Rattle.nuc_flights.specs.declared.slot.Slot.{Slot};
 
-use crate::Landing;
+use crate::Taken;
 use crate::slot::{Level, Slot};
 use nuc_class::Op;
 use std::alloc::{AllocError, Global};
@@ -42,18 +42,16 @@ impl Flights {
         }
     }
 
-    /// Puts an operation in flight, planned, behind the others.
-    pub fn fly(&mut self, op: Op) -> Result<(), AllocError>
-        ensures ok { OnOk result (self.new.now ≡ self.old.now ++ as_planned op ∷ []) }
+    /// Puts operations in flight, planned, behind the others. Only memory can be wanted.
+    pub fn fly(&mut self, ops: Vec<Op>) -> Result<(), AllocError>
+        ensures ok { OnOk result (self.new.now ≡ self.old.now ++ map as_planned ops.items) }
         ensures err { OnErr result (self.new.now ≡ self.old.now) }
         ensures settled { self.new.settled ≡ self.old.settled }
     {
-        self.slots.push(Slot {
-            op,
-            at: Level::Planned,
-            was: Level::Away,
-            landing: None,
-        })?;
+        self.slots.reserve(ops.len())?;
+        for op in ops {
+            self.slots.push_reserved(Slot::planned(op));
+        }
         Ok(())
     }
 
@@ -68,13 +66,20 @@ impl Flights {
     }
 
     /// What came of the operation under this number, where it was taken.
-    pub fn landing(&self, number: u64) -> Option<&Landing>
-        ensures { option_copied result ≡ landing_of (flight_of number self.now.now) }
+    pub fn taken(&self, number: u64) -> Option<Taken>
+        ensures { result ≡ taken_of (flight_of number self.now.now) }
     {
         match position_at(&self.slots, number, Level::Taken) {
-            Some(at) => self.slots[at].landing.as_ref(),
+            Some(at) => self.slots[at].came,
             None => None,
         }
+    }
+
+    /// How many operations are in flight.
+    pub fn len(&self) -> u64
+        ensures { result ≡ length self.now.now }
+    {
+        count_flying(&self.slots)
     }
 
     /// A planned operation is started. Whether there is one under this number.
@@ -92,15 +97,15 @@ impl Flights {
 
     /// A started operation was taken, and this came of it. Whether there is one under this number; else what came is
     /// dropped.
-    pub fn take(&mut self, number: u64, landing: Landing) -> bool
-        ensures taken { MatchBool result (StandsAt number IsStarted self.old.now × (self.new.now ≡ staged number (taken landing) self.old.now))
+    pub fn take(&mut self, number: u64, came: Taken) -> bool
+        ensures taken { MatchBool result (StandsAt number IsStarted self.old.now × (self.new.now ≡ staged number (taken came) self.old.now))
             (¬ (StandsAt number IsStarted self.old.now) × (self.new.now ≡ self.old.now)) }
         ensures settled { self.new.settled ≡ self.old.settled }
     {
         let Some(at) = position_at(&self.slots, number, Level::Started) else {
             return false;
         };
-        self.slots[at].land(landing);
+        self.slots[at].land(came);
         true
     }
 
@@ -165,6 +170,12 @@ fn position_at(slots: &[Slot], number: u64, level: Level) -> Option<usize>
         }
         None => None,
     }
+}
+
+fn count_flying(slots: &[Slot]) -> u64
+    ensures { result ≡ length (flights_now slots.now) }
+{
+    slots.iter().filter(|slot| slot.at != Level::Away).count() as u64
 }
 
 fn put_away(slots: &mut Vec<Slot>)

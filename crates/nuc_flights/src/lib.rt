@@ -2,11 +2,11 @@
 #![tactic(auto)]
 
 mod flights;
-mod landing;
+mod taken;
 mod slot;
 
 pub use flights::Flights;
-pub use landing::{Landing, Taken};
+pub use taken::Taken;
 
 #[cfg(test)]
 mod tests;

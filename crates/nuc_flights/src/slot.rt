@@ -1,7 +1,7 @@
 ghost use Rattle.std.specs.Prelude.{◌≡◌, Some};
 ghost use Rattle.nuc_flights.specs.Slots.{flies};
 
-use crate::Landing;
+use crate::Taken;
 use nuc_class::Op;
 
 /// How far an operation has come.
@@ -22,16 +22,27 @@ pub struct Slot {
     /// How far it had come when the flights were last settled.
     pub was: Level,
     /// What came of its outside change, from when it is taken.
-    pub landing: Option<Landing>,
+    pub came: Option<Taken>,
 }
 
 impl Slot {
+    pub fn planned(op: Op) -> Slot
+        ensures { result ≡ record { op = op; at = Level.Planned; was = Level.Away; came = None } }
+    {
+        Slot {
+            op,
+            at: Level::Planned,
+            was: Level::Away,
+            came: None,
+        }
+    }
+
     /// It was taken, and this came of it.
-    pub fn land(&mut self, landing: Landing)
-        ensures { self.new ≡ record self.old { at = Level.Taken; landing = Some landing } }
+    pub fn land(&mut self, came: Taken)
+        ensures { self.new ≡ record self.old { at = Level.Taken; came = Some came } }
     {
         self.at = Level::Taken;
-        self.landing = Some(landing);
+        self.came = Some(came);
     }
 
     /// Whether it is in flight under this number.

@@ -1,8 +1,7 @@
-use crate::{Flights, Landing, Taken};
+use crate::{Flights, Taken};
 use nuc_base::{Kind, Name, Node, NodeId, Place, Ver};
 use nuc_class::Op;
 use nuc_folder::Outcome;
-use sqlite_items::Items;
 use std::alloc::Global;
 use std::test::Fail;
 
@@ -23,15 +22,11 @@ fn upload(alloc: Global, number: u64) -> Result<Op, Fail> {
     Ok(op)
 }
 
-fn landing(alloc: Global, taken: Taken) -> Landing {
-    Landing {
-        taken,
-        news: Items::new(alloc),
-    }
-}
-
-fn taken(flights: &Flights, number: u64) -> Option<Taken> {
-    flights.landing(number).map(|landing| landing.taken)
+fn fly(alloc: Global, flights: &mut Flights, number: u64) -> Result<(), Fail> {
+    let mut ops = Vec::new(alloc);
+    ops.push(upload(alloc, number)?)?;
+    flights.fly(ops)?;
+    Ok(())
 }
 
 fn flies(flights: &Flights, number: u64) -> bool {
@@ -42,13 +37,13 @@ fn flies(flights: &Flights, number: u64) -> bool {
 fn an_operation_is_planned_started_taken_and_done(rt: HostRuntime) -> Result<(), Fail> {
     let alloc = rt.alloc();
     let mut flights = Flights::new(alloc);
-    flights.fly(upload(alloc, 7)?)?;
+    fly(alloc, &mut flights, 7)?;
     assert!(rt; flies(&flights, 7) && !flies(&flights, 8));
-    assert!(rt; !flights.finish(7) && !flights.take(7, landing(alloc, Taken::Accepted(1))));
+    assert!(rt; !flights.finish(7) && !flights.take(7, Taken::Accepted(1)));
     assert!(rt; !flights.start(8) && flights.start(7) && !flights.start(7));
-    assert!(rt; taken(&flights, 7).is_none());
-    assert!(rt; flights.take(7, landing(alloc, Taken::Accepted(3))));
-    assert!(rt; taken(&flights, 7) == Some(Taken::Accepted(3)));
+    assert!(rt; flights.taken(7).is_none());
+    assert!(rt; flights.take(7, Taken::Accepted(3)));
+    assert!(rt; flights.taken(7) == Some(Taken::Accepted(3)));
     assert!(rt; flights.finish(7) && !flies(&flights, 7) && !flights.finish(7));
     Ok(())
 }
@@ -57,15 +52,17 @@ fn an_operation_is_planned_started_taken_and_done(rt: HostRuntime) -> Result<(),
 fn going_back_brings_each_to_where_it_was(rt: HostRuntime) -> Result<(), Fail> {
     let alloc = rt.alloc();
     let mut flights = Flights::new(alloc);
-    flights.fly(upload(alloc, 1)?)?;
-    flights.fly(upload(alloc, 2)?)?;
+    fly(alloc, &mut flights, 1)?;
+    fly(alloc, &mut flights, 2)?;
     assert!(rt; flights.start(1));
-    assert!(rt; flights.take(1, landing(alloc, Taken::Folder(Outcome::Changed))));
+    assert!(rt; flights.take(1, Taken::Folder(Outcome::Changed)));
     flights.settle();
+    assert_eq!(rt; flights.len(), 2);
     assert!(rt; flights.finish(1) && flights.start(2));
-    flights.fly(upload(alloc, 3)?)?;
+    assert_eq!(rt; flights.len(), 1);
+    fly(alloc, &mut flights, 3)?;
     flights.back();
-    assert!(rt; taken(&flights, 1) == Some(Taken::Folder(Outcome::Changed)));
+    assert!(rt; flights.taken(1) == Some(Taken::Folder(Outcome::Changed)));
     assert!(rt; flights.start(2) && !flies(&flights, 3));
     flights.clear();
     assert!(rt; !flies(&flights, 1) && !flies(&flights, 2));

@@ -3,7 +3,7 @@ use Rattle.nuc_flights.specs.Flights.{FlightsState, IsTaken, StandsAt, taken, wi
 use Rattle.nuc_flights.specs.Slots.{Finds, IsSound, flight_was}
 use Rattle.nuc_flights.specs.declared.slot.Level.TheVariants as level
 use Rattle.nuc_flights.specs.declared.slot.Slot.{Slot}
-use Rattle.nuc_flights.proofs.Flying.{absent, finds_at, finds_within, finish_sound, found_sound, set_sound, stands, taken_landing, taken_level, taken_stage, were_is, without_is}
+use Rattle.nuc_flights.proofs.Flying.{absent, finds_at, finds_within, finish_sound, found_sound, set_sound, stands, taken_came, taken_level, taken_stage, were_is, without_is}
 use Rattle.nuc_flights.proofs.flights.Flights.finish.Goals as goal
 
 pub index_mut-requires : goal.index_mut-requires
@@ -24,7 +24,7 @@ returns-clause-finished c =
     let there : Finds c.args.number items c.in-Some.at s = subst (λ xs. Finds c.args.number xs c.in-Some.at c.in-Some.ensures.0) c.deref.ensures.value c.in-Some.ensures.1 in
     let same : c.index_mut.result.now ≡ s = c.index_mut.ensures.value ∙ finds_at c.args.number items c.in-Some.at s c.index_mut.result.now there in
     let now_is = ap (λ (s : FlightsState). s.now) c.self.view_is in
-    let x = taken_landing s (found_sound c.args.number items c.in-Some.at s c.self.invariant there) c.in-Some.ensures.2 in
+    let x = taken_came s (found_sound c.args.number items c.in-Some.at s c.self.invariant there) c.in-Some.ensures.2 in
     let stage = taken_stage s x.0 c.in-Some.ensures.2 x.1 in (
       subst (StandsAt c.args.number IsTaken) now_is (stands c.args.number items c.in-Some.at s (taken x.0) IsTaken there stage tt),
       without_is c.args.number items c.in-Some.at s _ (taken x.0) there stage refl ∙ ap (without c.args.number) now_is,

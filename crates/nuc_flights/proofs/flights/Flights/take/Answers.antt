@@ -26,7 +26,7 @@ returns-clause-taken c =
     let now_is = ap (λ (s : FlightsState). s.now) c.self.view_is in
     let stage = started_stage s c.in-Some.ensures.2 in (
       subst (StandsAt c.args.number IsStarted) now_is (stands c.args.number items c.in-Some.at s started IsStarted there stage tt),
-      staged_is c.args.number items c.in-Some.at s _ started (taken c.args.landing) there stage (ap (λ (x : Slot). x.op) (c.land.ensures ∙ ap (λ (x : Slot). record x { at = level.Taken; landing = Some c.args.landing }) same)) (ap (λ (x : Slot). stage_at x.at x.landing) c.land.ensures) ∙ ap (staged c.args.number (taken c.args.landing)) now_is,
+      staged_is c.args.number items c.in-Some.at s _ started (taken c.args.came) there stage (ap (λ (x : Slot). x.op) (c.land.ensures ∙ ap (λ (x : Slot). record x { at = level.Taken; came = Some c.args.came }) same)) (ap (λ (x : Slot). stage_at x.at x.came) c.land.ensures) ∙ ap (staged c.args.number (taken c.args.came)) now_is,
     )
 
 pub returns-clause-settled : goal.returns-clause-settled
@@ -35,7 +35,7 @@ returns-clause-settled c =
     let items = c.self.inside.slots.items in
     let there : Finds c.args.number items c.in-Some.at s = subst (λ xs. Finds c.args.number xs c.in-Some.at c.in-Some.ensures.0) c.deref.ensures.value c.in-Some.ensures.1 in
     let same : c.index_mut.result.now ≡ s = c.index_mut.ensures.value ∙ finds_at c.args.number items c.in-Some.at s c.index_mut.result.now there in
-    were_is c.args.number items c.in-Some.at s _ there (ap flight_was (c.land.ensures ∙ ap (λ (x : Slot). record x { at = level.Taken; landing = Some c.args.landing }) same) ∙ land_was s c.args.landing (found_sound c.args.number items c.in-Some.at s c.self.invariant there) c.in-Some.ensures.2) ∙ ap (λ (s : FlightsState). s.settled) c.self.view_is
+    were_is c.args.number items c.in-Some.at s _ there (ap flight_was (c.land.ensures ∙ ap (λ (x : Slot). record x { at = level.Taken; came = Some c.args.came }) same) ∙ land_was s c.args.came (found_sound c.args.number items c.in-Some.at s c.self.invariant there) c.in-Some.ensures.2) ∙ ap (λ (s : FlightsState). s.settled) c.self.view_is
 
 pub invariant_of-self : goal.invariant_of-self
 invariant_of-self c =
@@ -44,4 +44,4 @@ invariant_of-self c =
     let there : Finds c.args.number items c.in-Some.at s = subst (λ xs. Finds c.args.number xs c.in-Some.at c.in-Some.ensures.0) c.deref.ensures.value c.in-Some.ensures.1 in
     let same : c.index_mut.result.now ≡ s = c.index_mut.ensures.value ∙ finds_at c.args.number items c.in-Some.at s c.index_mut.result.now there in
     let sound = found_sound c.args.number items c.in-Some.at s c.self.invariant there in
-    set_sound items c.in-Some.at _ (subst IsSound (sym (c.land.ensures ∙ ap (λ (x : Slot). record x { at = level.Taken; landing = Some c.args.landing }) same)) (land_sound s c.args.landing sound c.in-Some.ensures.2)) c.self.invariant
+    set_sound items c.in-Some.at _ (subst IsSound (sym (c.land.ensures ∙ ap (λ (x : Slot). record x { at = level.Taken; came = Some c.args.came }) same)) (land_sound s c.args.came sound c.in-Some.ensures.2)) c.self.invariant
