@@ -4,6 +4,8 @@
 
 mod laws;
 mod stock;
+#[cfg(test)]
+mod tests;
 mod undo;
 mod undo_tree;
 
