@@ -6,6 +6,7 @@ ghost use Rattle.nuc_undo.specs.Stock.{Has, HasAll, IsAway, IsFound, IsGap, IsRi
 use nuc_base::Node;
 use std::alloc::{AllocError, Global};
 use std::marker::Model;
+use std::mem;
 
 /// Where a node lies by under a number; none where it was taken.
 #[derive(Debug, Drop)]
@@ -56,10 +57,15 @@ impl Stock {
     {
         let node = Some(node);
         match position(&self.slots, number) {
-            Ok(at) => self.slots[at] = Slot { number, node },
-            Err(at) => self.slots.insert(at, Slot { number, node })?,
+            Ok(at) => {
+                self.slots[at] = Slot { number, node };
+                Ok(())
+            }
+            Err(at) => {
+                self.slots.insert(at, Slot { number, node })?;
+                Ok(())
+            }
         }
-        Ok(())
     }
 
     /// Takes the node that is laid by under this number.
@@ -74,10 +80,8 @@ impl Stock {
         let Ok(at) = position(&self.slots, number) else {
             unreachable!()
         };
-        let Some(node) = self.slots[at].node.take() else {
-            unreachable!()
-        };
-        node
+        let taken = mem::replace(&mut self.slots[at], Slot { number, node: None });
+        taken.node.unwrap()
     }
 
     /// Lays a node by again under the number that it was taken from, if from any.
@@ -92,7 +96,8 @@ impl Stock {
         let Ok(at) = position(&self.slots, number) else {
             unreachable!()
         };
-        self.slots[at].node = Some(node);
+        let node = Some(node);
+        self.slots[at] = Slot { number, node };
     }
 
     /// Drops the empty slots: what was taken is not given back.
