@@ -6,4 +6,4 @@ use Rattle.nuc_undo.proofs.undo_tree.UndoTree.tree.Goals as goal
 
 pub returns-clause-settled : goal.returns-clause-settled
 returns-clause-settled g c =
-    subst (λ (s : UndoState). WellFormed (settled_of s)) c.self.view_is (settled_form _ (reverse c.self.inside.undos.items) c.self.invariant.form c.self.invariant.undos)
+    subst (λ (s : UndoState). WellFormed (settled_of s)) c.self.view_is (settled_form _ (reverse c.self.inside.steps.items) c.self.invariant.form c.self.invariant.undos)

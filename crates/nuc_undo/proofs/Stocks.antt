@@ -1,0 +1,2 @@
+-- What goes back to a stock.
+use Rattle.std.proofs.Common.{◌≡◌, ℕ}
