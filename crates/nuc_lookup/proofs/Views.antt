@@ -10,11 +10,11 @@ use Rattle.std.specs.Ordering.{nat_cmp, is_lt}
 use Rattle.std.specs.declared.cmp.Ordering.TheVariants.{Less}
 use Rattle.std.specs.Cmp.{nat_cmp_is}
 use Rattle.std.specs.List.Sorted.{IsPermutation}
-use Rattle.nuc_observe.specs.Rows.{Numbers, pairs, numbers_of, numbers_in, AreApart, IsBelow, IsRising, IsFound, IsGap}
-use Rattle.nuc_observe.specs.declared.lookup.Row.{Row}
-use Rattle.nuc_observe.proofs.Maps.{same_or_not, same_numbers, get_put_same, get_put_other, get_cut_same, get_cut_other, len_put_new}
-use Rattle.nuc_observe.proofs.Rows.{row_of, find_found, find_gap, rising_set, rising_insert, rising_remove, find_set_same, find_set_other, find_insert_same, find_insert_other, find_remove_same, find_remove_other}
-use Rattle.nuc_observe.proofs.Sorting.{sorted_says}
+use Rattle.nuc_lookup.specs.Rows.{Numbers, pairs, numbers_of, numbers_in, AreApart, IsBelow, IsRising, IsFound, IsGap}
+use Rattle.nuc_lookup.specs.declared.row.Row.{Row}
+use Rattle.nuc_lookup.proofs.Maps.{same_or_not, same_numbers, get_put_same, get_put_other, get_cut_same, get_cut_other, len_put_new}
+use Rattle.nuc_lookup.proofs.Rows.{row_of, find_found, find_gap, rising_set, rising_insert, rising_remove, find_set_same, find_set_other, find_insert_same, find_insert_other, find_remove_same, find_remove_other}
+use Rattle.nuc_lookup.proofs.Sorting.{sorted_says}
 
 both : (a b : Bool) → T a → T b → T (a && b)
 both true b p q = q

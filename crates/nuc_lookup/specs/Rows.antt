@@ -2,7 +2,7 @@
 use Rattle.std.specs.Prelude.{◌≡◌, ◌≢◌, ◌<◌, ℕ, zero, suc, AllPairs, List, [], ◌∷◌, map, Option, None, Some}
 use Rattle.std.specs.FinMap.{FinMap, from_entries, from_sorted, remove}
 use Rattle.std.specs.Ordering.{nat_cmp}
-use Rattle.nuc_observe.specs.declared.lookup.Row.{Row}
+use Rattle.nuc_lookup.specs.declared.row.Row.{Row}
 
 -- which number a number leads to
 abbrev pub Numbers : Type 0

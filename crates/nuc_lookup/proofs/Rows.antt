@@ -5,8 +5,8 @@ use Rattle.std.specs.Cmp.{unsigned_tied}
 use Rattle.std.specs.FinMap.{find}
 use Rattle.std.specs.Ordering.{nat_cmp, eq_by_cmp}
 use Rattle.std.proofs.lemmas.Bool.Decides.{eqb_tells}
-use Rattle.nuc_observe.specs.Rows.{pairs, IsBelow, IsRising, IsFound, IsGap}
-use Rattle.nuc_observe.specs.declared.lookup.Row.{Row}
+use Rattle.nuc_lookup.specs.Rows.{pairs, IsBelow, IsRising, IsFound, IsGap}
+use Rattle.nuc_lookup.specs.declared.row.Row.{Row}
 
 abbrev pub row_of : ℕ → ℕ → Row
 row_of x n = record { from = x; to = n }

@@ -1,10 +1,10 @@
 use Rattle.std.proofs.Common.{◌≡◌, ◌<◌, ap, sym, subst, ◌∙◌, Some, arith, vec_len}
 use Rattle.std.specs.List.{insert}
 use Rattle.std.proofs.lemmas.Grind.{common_steps}
-use Rattle.nuc_observe.specs.Rows.{IsRising, numbers_of}
-use Rattle.nuc_observe.proofs.Rows.{row_of}
-use Rattle.nuc_observe.proofs.Views.{present, absent, set_rises, set_is, insert_rises, insert_is, room_for}
-use Rattle.nuc_observe.proofs.lookup.Lookup.put.Goals as goal
+use Rattle.nuc_lookup.specs.Rows.{IsRising, numbers_of}
+use Rattle.nuc_lookup.proofs.Rows.{row_of}
+use Rattle.nuc_lookup.proofs.Views.{present, absent, set_rises, set_is, insert_rises, insert_is, room_for}
+use Rattle.nuc_lookup.proofs.lookup.Lookup.put.Goals as goal
 
 pub invariant_of-self : goal.invariant_of-self
 invariant_of-self c = set_rises _ _ _ c.deref.ensures.value (ap (λ s. s.numbers) c.self.view_is) c.self.invariant _ _ _ c.in-Ok.ensures.place

@@ -1,28 +1,23 @@
 ghost use Rattle.std.specs.Prelude.{◌≡◌, ◌+◌, ◌<◌, ◌≤◌, length, IsOk, MatchResult, OnOk};
 ghost use Rattle.std.specs.FinMap as map;
-ghost use Rattle.nuc_observe.specs.Rows.{AreApart, IsRising, IsFound, IsGap, numbers_in, without};
+ghost use Rattle.nuc_lookup.specs.Rows.{AreApart, IsRising, IsFound, IsGap, numbers_in, without};
+ghost use Rattle.nuc_lookup.specs.Undo.{led};
 
+use crate::Row;
 use std::alloc::{AllocError, Global};
 use std::marker::Model;
-
-/// A number, and the one that it leads to.
-#[derive(Clone, Copy, Debug, PartialEq, Eq)]
-pub(crate) struct Row {
-    pub(crate) from: u64,
-    pub(crate) to: u64,
-}
 
 /// What numbers lead to: rows in rising order of the number, found by halving. A row that comes last, as that of a new
 /// number mostly does, moves none.
 #[derive(Debug, Drop)]
-pub(crate) struct Lookup {
+pub struct Lookup {
     rows: Vec<Row>,
 }
 
 impl Model for Lookup {
     ghost use Rattle.std.specs.Prelude.{vec_capacity};
-    ghost use Rattle.nuc_observe.specs.Lookup.{LookupState, lookup_code};
-    ghost use Rattle.nuc_observe.specs.Rows.{numbers_of, IsRising};
+    ghost use Rattle.nuc_lookup.specs.Lookup.{LookupState, lookup_code};
+    ghost use Rattle.nuc_lookup.specs.Rows.{numbers_of, IsRising};
 
     ghost Value = { LookupState };
 
@@ -35,7 +30,7 @@ impl Model for Lookup {
 
 impl Lookup {
     /// No rows, in no memory.
-    pub(crate) fn new(alloc: Global) -> Lookup
+    pub fn new(alloc: Global) -> Lookup
         ensures { result.numbers ≡ map.empty }
     {
         Lookup {
@@ -44,7 +39,7 @@ impl Lookup {
     }
 
     /// What these rows say, which may come in any order.
-    pub(crate) fn of(mut rows: Vec<Row>) -> Lookup
+    pub fn of(mut rows: Vec<Row>) -> Lookup
         requires { AreApart rows.items }
         ensures numbers { result.numbers ≡ numbers_in rows.items }
         ensures room { map.len result.numbers ≤ result.room }
@@ -53,7 +48,7 @@ impl Lookup {
         Lookup { rows }
     }
 
-    pub(crate) fn get(&self, from: u64) -> Option<u64>
+    pub fn get(&self, from: u64) -> Option<u64>
         ensures { result ≡ map.get self.now.numbers from }
     {
         match position(&self.rows, from) {
@@ -62,20 +57,20 @@ impl Lookup {
         }
     }
 
-    pub(crate) fn len(&self) -> usize
+    pub fn len(&self) -> usize
         ensures { result ≡ map.len self.now.numbers }
     {
         self.rows.len()
     }
 
-    pub(crate) fn room(&self) -> usize
+    pub fn room(&self) -> usize
         ensures { result ≡ self.now.room }
     {
         self.rows.capacity()
     }
 
     /// Makes room for that many more rows than there was room for.
-    pub(crate) fn grow(&mut self, by: usize) -> Result<(), AllocError>
+    pub fn grow(&mut self, by: usize) -> Result<(), AllocError>
         ensures numbers { self.new.numbers ≡ self.old.numbers }
         ensures room { self.old.room ≤ self.new.room }
         ensures ok { OnOk result (self.old.room + by ≤ self.new.room) }
@@ -86,7 +81,7 @@ impl Lookup {
     }
 
     /// Lets a number lead to another, and says where it led before. It takes no memory.
-    pub(crate) fn put(&mut self, from: u64, to: u64) -> Option<u64>
+    pub fn put(&mut self, from: u64, to: u64) -> Option<u64>
         requires { map.len (map.insert self.old.numbers from to) ≤ self.old.room }
         ensures numbers { self.new.numbers ≡ map.insert self.old.numbers from to }
         ensures before { result ≡ map.get self.old.numbers from }
@@ -107,7 +102,7 @@ impl Lookup {
     }
 
     /// Lets a number lead nowhere, and says where it led before.
-    pub(crate) fn cut(&mut self, from: u64) -> Option<u64>
+    pub fn cut(&mut self, from: u64) -> Option<u64>
         ensures numbers { self.new.numbers ≡ map.remove self.old.numbers from }
         ensures before { result ≡ map.get self.old.numbers from }
         ensures room { self.new.room ≡ self.old.room }
@@ -118,8 +113,21 @@ impl Lookup {
         }
     }
 
+    /// Lets a number lead to another, or nowhere, and says where it led before. It takes no memory.
+    pub fn set(&mut self, from: u64, to: Option<u64>) -> Option<u64>
+        requires { map.len (led self.old.numbers from to) ≤ self.old.room }
+        ensures numbers { self.new.numbers ≡ led self.old.numbers from to }
+        ensures before { result ≡ map.get self.old.numbers from }
+        ensures room { self.new.room ≡ self.old.room }
+    {
+        match to {
+            Some(to) => self.put(from, to),
+            None => self.cut(from),
+        }
+    }
+
     /// Lets a number lead nowhere, where there is one.
-    pub(crate) fn cut_any(&mut self, from: Option<u64>)
+    pub fn cut_any(&mut self, from: Option<u64>)
         ensures numbers { self.new.numbers ≡ without self.old.numbers from }
         ensures room { self.new.room ≡ self.old.room }
     {

@@ -6,7 +6,7 @@ use Rattle.std.specs.Cmp.{unsigned_tied}
 use Rattle.std.specs.FinMap.{get, insert, remove, len, get-insert, get-remove, len-insert, len-remove, empty_of_len, get-empty, same_map, nat_cmp-IsAntisymmetric}
 use Rattle.std.proofs.lemmas.Cmp.{nat_cmp_total}
 use Rattle.std.specs.Ordering.{nat_cmp}
-use Rattle.nuc_observe.specs.Rows.{Numbers}
+use Rattle.nuc_lookup.specs.Rows.{Numbers}
 
 pub same_or_not : (x y : ℕ) → (x ≡ y) ⊎ (x ≢ y)
 same_or_not x y = elim (eqb_tells x y) [ inl (t, e) ↦ inl e | inr (t, e) ↦ inr e ]

@@ -1,6 +1,6 @@
 use Rattle.std.proofs.Common.{ap, sym, ◌∙◌, Some}
-use Rattle.nuc_observe.proofs.Views.{present, absent}
-use Rattle.nuc_observe.proofs.lookup.Lookup.get.Goals as goal
+use Rattle.nuc_lookup.proofs.Views.{present, absent}
+use Rattle.nuc_lookup.proofs.lookup.Lookup.get.Goals as goal
 
 pub returns-in-Ok : goal.returns-in-Ok
 returns-in-Ok c = ap (λ r. Some r.to) c.index.ensures

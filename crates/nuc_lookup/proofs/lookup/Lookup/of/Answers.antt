@@ -1,9 +1,9 @@
 use Rattle.std.proofs.Common.{rules, refl, arith}
 use Rattle.std.proofs.lemmas.List.Sorted.{IsNonDecreasingBy-from_sort_by_key}
-use Rattle.nuc_observe.specs.Rows.{IsRising}
-use Rattle.nuc_observe.proofs.Sorting.{apart_again, rising}
-use Rattle.nuc_observe.proofs.Views.{len_is, sorted_is}
-use Rattle.nuc_observe.proofs.lookup.Lookup.of.Goals as goal
+use Rattle.nuc_lookup.specs.Rows.{IsRising}
+use Rattle.nuc_lookup.proofs.Sorting.{apart_again, rising}
+use Rattle.nuc_lookup.proofs.Views.{len_is, sorted_is}
+use Rattle.nuc_lookup.proofs.lookup.Lookup.of.Goals as goal
 
 risen : (c : goal.After-sort_unstable_by_key) → IsRising c.sort_unstable_by_key.new.self.items
 risen c =

@@ -1,7 +1,7 @@
 use Rattle.std.proofs.Common.{rules}
 use Rattle.std.proofs.lemmas.List.Sorted.{answers_always}
-use Rattle.nuc_observe.proofs.Search.{searched}
-use Rattle.nuc_observe.proofs.lookup.position.Goals as goal
+use Rattle.nuc_lookup.proofs.Search.{searched}
+use Rattle.nuc_lookup.proofs.lookup.position.Goals as goal
 
 pub returns-clause-place : goal.returns-clause-place
 returns-clause-place c =

@@ -1,8 +1,8 @@
 use Rattle.std.proofs.Common.{ap, sym, subst, ◌∙◌, Some}
-use Rattle.nuc_observe.specs.Rows.{numbers_of, IsRising}
-use Rattle.nuc_observe.proofs.Rows.{rising_remove}
-use Rattle.nuc_observe.proofs.Views.{present, absent, remove_is, remove_gap}
-use Rattle.nuc_observe.proofs.lookup.Lookup.cut.Goals as goal
+use Rattle.nuc_lookup.specs.Rows.{numbers_of, IsRising}
+use Rattle.nuc_lookup.proofs.Rows.{rising_remove}
+use Rattle.nuc_lookup.proofs.Views.{present, absent, remove_is, remove_gap}
+use Rattle.nuc_lookup.proofs.lookup.Lookup.cut.Goals as goal
 
 pub invariant_of-self : goal.invariant_of-self
 invariant_of-self c = subst IsRising (sym c.remove.ensures.items) (rising_remove _ _ c.self.invariant)

@@ -1,7 +1,7 @@
 use Rattle.std.specs.Prelude.{ℕ, refl}
 use Rattle.std.specs.Coded.{Coded, code_by, coded×, coded_ℕ}
 use Rattle.std.specs.FinMap as map
-use Rattle.nuc_observe.specs.Rows.{Numbers}
+use Rattle.nuc_lookup.specs.Rows.{Numbers}
 
 -- what a caller sees of a look-up: what it leads to, and how many rows it has room for
 pub record LookupState : Type 0 where

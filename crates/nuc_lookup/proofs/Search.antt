@@ -6,8 +6,8 @@ use Rattle.std.specs.Ordering.{nat_cmp, ordering_index}
 use Rattle.std.specs.declared.cmp.Ordering.TheVariants.{Less, Equal, Greater}
 use Rattle.std.proofs.lemmas.Cmp.{ranked}
 use Rattle.std.proofs.lemmas.Bool.Decides.{nat_tests}
-use Rattle.nuc_observe.specs.Rows.{IsBelow, IsRising, IsFound, IsGap}
-use Rattle.nuc_observe.specs.declared.lookup.Row.{Row}
+use Rattle.nuc_lookup.specs.Rows.{IsBelow, IsRising, IsFound, IsGap}
+use Rattle.nuc_lookup.specs.declared.row.Row.{Row}
 
 pub below_found : (x y : ℕ) (es : List Row) (i : ℕ) → IsBelow y es → IsFound x es i → y < x
 below_found x y [] i b f = absurd f

@@ -14,8 +14,8 @@ use Rattle.std.specs.List.{IsDistinct}
 use Rattle.std.specs.List.Sorted.{IsNonDecreasingBy, IsPermutation}
 use Rattle.std.specs.Map.{keys_of, lookup}
 use Rattle.std.specs.Ordering.{nat_cmp, eq_by_cmp}
-use Rattle.nuc_observe.specs.Rows.{AreApart, IsBelow, IsRising, pairs}
-use Rattle.nuc_observe.specs.declared.lookup.Row.{Row}
+use Rattle.nuc_lookup.specs.Rows.{AreApart, IsBelow, IsRising, pairs}
+use Rattle.nuc_lookup.specs.declared.row.Row.{Row}
 
 abbrev numbers : List Row → List ℕ
 numbers rows = map (λ r. r.from) rows
