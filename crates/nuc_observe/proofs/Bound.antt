@@ -4,13 +4,13 @@ use Rattle.std.proofs.lemmas.List.{get_or-map}
 use Rattle.std.proofs.lemmas.List.Elements.{All-tail}
 use Rattle.std.specs.FinMap.{get, insert, from_entries, get-empty}
 use Rattle.std.specs.Ordering.{nat_cmp}
-use Rattle.nuc_observe.specs.Rows.{AreApart as RowsApart, numbers_in, pairs, without}
+use Rattle.nuc_lookup.specs.Rows.{AreApart as RowsApart, numbers_in, pairs, without}
 use Rattle.nuc_observe.specs.Keys.{AreApart, AreBindings, AreKeys, key_map, row_by_id, row_by_key}
 use Rattle.nuc_observe.specs.Pairing.{AreInverse}
 use Rattle.nuc_observe.specs.declared.binding.Binding.{Binding}
-use Rattle.nuc_observe.specs.declared.lookup.Row.{Row}
+use Rattle.nuc_lookup.specs.declared.row.Row.{Row}
 use Rattle.nuc_observe.proofs.Inverse.{nobody, put_inverse}
-use Rattle.nuc_observe.proofs.Maps.{same_or_not, get_put_same, get_put_other, one_number, not_both}
+use Rattle.nuc_lookup.proofs.Maps.{same_or_not, get_put_same, get_put_other, one_number, not_both}
 
 -- THE ROWS
 length_map : {A B : Type 0} (f : A → B) (xs : List A) → length (map f xs) ≡ length xs

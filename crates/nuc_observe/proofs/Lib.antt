@@ -1,8 +1,3 @@
 mod Bound
 mod Inverse
-mod Maps
-mod Rows
-mod Search
-mod Sorting
 mod Undoing
-mod Views

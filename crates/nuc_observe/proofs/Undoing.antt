@@ -7,11 +7,11 @@ use Rattle.std.specs.FinMap.{get, insert, remove, len, empty, get-empty, len-emp
 use Rattle.std.specs.Ordering.{nat_cmp}
 use Rattle.nuc_folder.specs.declared.item.Key.{Key}
 use Rattle.nuc_observe.specs.Keys.{AreKeys, HasAlone, IsFree, IsUnheld, KeyMap, with_key}
-use Rattle.nuc_observe.specs.Lookup.{LookupState}
+use Rattle.nuc_lookup.specs.Lookup.{LookupState}
 use Rattle.nuc_observe.specs.State.{IsKept, first_or, spare_of}
 use Rattle.nuc_observe.specs.Undo.{first_of, past_of, undone}
 use Rattle.nuc_observe.specs.declared.undo.Undo.{Undo}
-use Rattle.nuc_observe.proofs.Maps.{same_or_not, same_numbers, get_put_same, get_put_other, get_cut_same, get_cut_other, one_number, not_both, len_put_new, len_put_over, len_cut, len_cut_none}
+use Rattle.nuc_lookup.proofs.Maps.{same_or_not, same_numbers, get_put_same, get_put_other, get_cut_same, get_cut_other, one_number, not_both, len_put_new, len_put_over, len_cut, len_cut_none}
 
 -- ONE CHANGE
 -- after it these are keys still

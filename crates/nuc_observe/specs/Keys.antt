@@ -5,7 +5,7 @@ use Rattle.std.specs.FinMap.{FinMap}
 use Rattle.std.specs.Ordering.{nat_cmp}
 use Rattle.nuc_folder.specs.declared.item.Key.{Key}
 use Rattle.nuc_observe.specs.declared.binding.Binding.{Binding}
-use Rattle.nuc_observe.specs.declared.lookup.Row.{Row}
+use Rattle.nuc_lookup.specs.declared.row.Row.{Row}
 
 -- from an identity to its key
 abbrev pub KeyMap : Type 0

@@ -1,6 +1,6 @@
 use Rattle.std.specs.Prelude.{◌≡◌, ℕ, Some}
 use Rattle.std.specs.FinMap.{get, len}
-use Rattle.nuc_observe.specs.Rows.{Numbers}
+use Rattle.nuc_lookup.specs.Rows.{Numbers}
 
 -- each leads back where the other leads
 pub record AreInverse (ids keys : Numbers) : Type 0 where

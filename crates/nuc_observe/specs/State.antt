@@ -2,7 +2,7 @@ use Rattle.std.specs.Prelude.{◌≡◌, ◌+◌, ◌-◌, ◌≤◌, ℕ, All, 
 use Rattle.std.specs.Coded.{Coded, code_by, coded×, coded_ℕ, coded_list}
 use Rattle.std.specs.FinMap as map
 use Rattle.nuc_observe.specs.Keys.{AreKeys, KeyMap}
-use Rattle.nuc_observe.specs.Lookup.{LookupState, numbers_code}
+use Rattle.nuc_lookup.specs.Lookup.{LookupState, numbers_code}
 use Rattle.nuc_observe.specs.Undo.{first_of, past_of}
 use Rattle.nuc_observe.specs.declared.undo.Undo.{Undo}
 

@@ -3,7 +3,6 @@
 
 mod binding;
 mod keys;
-mod lookup;
 mod pairing;
 #[cfg(test)]
 mod tests;

@@ -3,9 +3,9 @@ ghost use Rattle.std.specs.FinMap as map;
 ghost use Rattle.nuc_observe.specs.Keys.{AreApart, HasAlone, IsFree, IsUnheld, key_map, row_by_id, row_by_key, with_key};
 
 use crate::Binding;
-use crate::lookup::{Lookup, Row};
 use nuc_base::NodeId;
 use nuc_folder::Key;
+use nuc_lookup::{Lookup, Row};
 use std::alloc::{AllocError, Global};
 use std::marker::Model;
 
@@ -18,7 +18,7 @@ pub(crate) struct Pairing {
 
 impl Model for Pairing {
     ghost use Rattle.std.specs.Prelude.{min};
-    ghost use Rattle.nuc_observe.specs.Lookup.{LookupState, lookup_code};
+    ghost use Rattle.nuc_lookup.specs.Lookup.{LookupState, lookup_code};
     ghost use Rattle.nuc_observe.specs.Pairing.{AreInverse};
 
     ghost Value = { LookupState };

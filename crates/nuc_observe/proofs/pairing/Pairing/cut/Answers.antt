@@ -1,5 +1,5 @@
 use Rattle.std.proofs.Common.{ap, ◌∙◌}
-use Rattle.nuc_observe.specs.Rows.{without}
+use Rattle.nuc_lookup.specs.Rows.{without}
 use Rattle.nuc_observe.proofs.Inverse.{cut_inverse, inverse_as}
 use Rattle.nuc_observe.proofs.pairing.Pairing.cut.Goals as goal
 

@@ -1,5 +1,5 @@
 use Rattle.std.proofs.Common.{sym, ap, subst, ◌∙◌, arith}
-use Rattle.nuc_observe.specs.Rows.{AreApart, numbers_in}
+use Rattle.nuc_lookup.specs.Rows.{AreApart, numbers_in}
 use Rattle.nuc_observe.proofs.Bound.{bound_inverse, ids_apart, ids_are, keys_apart}
 use Rattle.nuc_observe.proofs.Inverse.{inverse_as}
 use Rattle.nuc_observe.proofs.pairing.Pairing.of.Goals as goal

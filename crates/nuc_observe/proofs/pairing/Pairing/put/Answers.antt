@@ -1,7 +1,7 @@
 use Rattle.std.proofs.Common.{◌≡◌, ◌≤◌, sym, ap, subst, ◌∙◌, arith}
 use Rattle.std.specs.FinMap.{insert, len, get}
 use Rattle.nuc_observe.specs.Keys.{IsFree}
-use Rattle.nuc_observe.specs.Rows.{Numbers, without}
+use Rattle.nuc_lookup.specs.Rows.{Numbers, without}
 use Rattle.nuc_observe.proofs.Inverse.{inverse_as, put_inverse}
 use Rattle.nuc_observe.proofs.pairing.Pairing.put.Goals as goal
 

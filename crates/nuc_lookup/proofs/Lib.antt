@@ -1,0 +1,5 @@
+pub mod Maps
+pub mod Rows
+pub mod Search
+pub mod Sorting
+pub mod Views

@@ -1,0 +1,4 @@
+pub mod Lookup
+pub mod Rows
+pub mod State
+pub mod Undo

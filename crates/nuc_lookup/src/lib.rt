@@ -1,0 +1,11 @@
+//! Numbers that lead to numbers: looked up by halving, and with changes that can be taken back.
+#![tactic(auto)]
+
+mod lookup;
+mod row;
+mod undo;
+mod undo_lookup;
+
+pub use lookup::Lookup;
+pub use row::Row;
+pub use undo_lookup::UndoLookup;

@@ -1,7 +1,0 @@
-use Rattle.std.proofs.Common.{ap, ◌∙◌}
-use Rattle.nuc_observe.specs.Rows.{numbers_of}
-use Rattle.nuc_observe.proofs.Views.{nowhere}
-use Rattle.nuc_observe.proofs.lookup.Lookup.new.Goals as goal
-
-pub returns : goal.returns
-returns c = ap numbers_of c.new.ensures.items ∙ nowhere

@@ -1,0 +1,8 @@
+//! What a client knows of the server: its tree at the client's cursor, and the entries beyond it that were heard of.
+#![tactic(auto)]
+
+mod ahead;
+mod apply;
+mod remote;
+
+pub use remote::Remote;
