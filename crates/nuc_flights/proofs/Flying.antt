@@ -6,8 +6,8 @@ use Rattle.std.proofs.Math.ListN.{set}
 use Rattle.std.proofs.lemmas.List.Quantifiers.{position-Some}
 use Rattle.nuc_folder.proofs.Inserts.{position-None}
 use Rattle.nuc_class.specs.declared.op.Op.{Op}
-use Rattle.nuc_flights.specs.Flights.{Flight, IsPlanned, IsStarted, IsTaken, Stage, StandsAt, taken_at, taken_of, planned, started, taken, flight_of, staged, without}
-use Rattle.nuc_flights.specs.Slots.{CameBefore, Finds, IsEarly, here, there, HasOutcome, IsSound, away_slot, back_slot, is_kept, settled_slot, flies, flight_at, flight_now, flight_was, flights_now, flights_were, is_flying, stage_at}
+use Rattle.nuc_flights.specs.Flights.{as_planned, Flight, IsPlanned, IsStarted, IsTaken, Stage, StandsAt, taken_at, taken_of, planned, started, taken, flight_of, staged, without}
+use Rattle.nuc_flights.specs.Slots.{CameBefore, Finds, IsEarly, here, there, HasOutcome, IsSound, away_slot, back_slot, is_kept, planned_slot, settled_slot, flies, flight_at, flight_now, flight_was, flights_now, flights_were, is_flying, stage_at}
 use Rattle.nuc_flights.specs.declared.taken.Taken.{Taken}
 use Rattle.nuc_flights.specs.declared.slot.Level.{Level}
 use Rattle.nuc_flights.specs.declared.slot.Level.TheVariants as level
@@ -404,3 +404,27 @@ was_early op level.Taken a b early = absurd early
 
 pub land_was : (s : Slot) (x : Taken) → IsSound s → s.at ≡ level.Started → flight_was (record s { at = level.Taken; came = Some x }) ≡ flight_was s
 land_was s x sound is = was_early s.op s.was (Some x) s.came (early_of s level.Started is (λ e. e) sound)
+
+-- NEW ONES, and how many fly
+pub flights_planned : (ops : List Op) → flights_now (map planned_slot ops) ≡ map as_planned ops
+flights_planned [] = refl
+flights_planned (op ∷ ops) = ap (λ fs. as_planned op ∷ fs) (flights_planned ops)
+
+pub were_planned : (ops : List Op) → flights_were (map planned_slot ops) ≡ []
+were_planned [] = refl
+were_planned (op ∷ ops) = were_planned ops
+
+count_more : (s : Slot) (n : ℕ) (fs : List Flight) → IsSound s → n ≡ length fs → cond (is_kept s) (suc n) n ≡ length (cons_option (flight_now s) fs)
+count_more s n fs sound same = elim (is_kept s) as (λ b. is_kept s ≡ b → cond b (suc n) n ≡ length (cons_option (flight_now s) fs)) [
+  | true ↦ λ hits. let st = staged_by s.at s.came sound.now hits in ap suc same ∙ sym (ap (λ o. length (cons_option (flight_at s.op o) fs)) st.1)
+  | false ↦ λ miss. same ∙ sym (ap (λ o. length (cons_option o fs)) (nobody s.op s.at s.came miss))
+] refl
+
+length_kept : (s : Slot) (ss : List Slot) (b : Bool) → is_kept s ≡ b → length (filter is_kept (s ∷ ss)) ≡ cond b (suc (length (filter is_kept ss))) (length (filter is_kept ss))
+length_kept s ss true is = ap (λ b. length (cond b (s ∷ filter is_kept ss) (filter is_kept ss))) is
+length_kept s ss false is = ap (λ b. length (cond b (s ∷ filter is_kept ss) (filter is_kept ss))) is
+
+pub count_is : (slots : List Slot) → All IsSound slots → length (filter is_kept slots) ≡ length (flights_now slots)
+count_is [] sound = refl
+count_is (s ∷ ss) sound =
+    length_kept s ss (is_kept s) refl ∙ count_more s _ _ (sound 0 s (omega arith)) (count_is ss (rest_sound s ss sound))

@@ -72,6 +72,10 @@ pub data Finds (n : ℕ) : List Slot → ℕ → Slot → Type 0 where
   here : (s : Slot) (ss : List Slot) → flies n s ≡ true → Finds n (s ∷ ss) 0 s
   there : (s t : Slot) (ss : List Slot) (i : ℕ) → flies n s ≡ false → Finds n ss i t → Finds n (s ∷ ss) (suc i) t
 
+-- the slot of an operation that is new
+abbrev pub planned_slot : Op → Slot
+planned_slot op = record { op = op; at = level.Planned; was = level.Away; came = None }
+
 -- what settling, going back and forgetting make of a slot
 abbrev pub settled_slot : Slot → Slot
 settled_slot s = record s { was = s.at }

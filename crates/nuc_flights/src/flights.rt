@@ -1,4 +1,4 @@
-ghost use Rattle.std.specs.Prelude.{◌≡◌, ◌≢◌, ◌++◌, ◌∷◌, [], ℕ, map, MatchBool, MatchOption, OnOk, OnErr};
+ghost use Rattle.std.specs.Prelude.{◌≡◌, ◌≢◌, ◌++◌, ◌∷◌, [], ℕ, length, map, MatchBool, MatchOption, OnOk, OnErr};
 ghost use Rattle.std.specs.List.{filter, position};
 ghost use Rattle.std.specs.Option.{option_copied, option_map};
 ghost use Rattle.nuc_flights.specs.Flights.{IsPlanned, IsStarted, IsTaken, StandsAt, as_planned, flight_of, taken_of, staged, taken, started, without};
@@ -43,16 +43,13 @@ impl Flights {
     }
 
     /// Puts operations in flight, planned, behind the others. Only memory can be wanted.
-    pub fn fly(&mut self, ops: Vec<Op>) -> Result<(), AllocError>
+    pub fn fly(&mut self, alloc: Global, ops: Vec<Op>) -> Result<(), AllocError>
         ensures ok { OnOk result (self.new.now ≡ self.old.now ++ map as_planned ops.items) }
         ensures err { OnErr result (self.new.now ≡ self.old.now) }
         ensures settled { self.new.settled ≡ self.old.settled }
     {
-        self.slots.reserve(ops.len())?;
-        for op in ops {
-            self.slots.push_reserved(Slot::planned(op));
-        }
-        Ok(())
+        let mut slots: Vec<Slot> = ops.into_iter().map(Slot::planned).collect(alloc)?;
+        self.slots.append(&mut slots)
     }
 
     /// The operation in flight under this number.
@@ -173,9 +170,15 @@ fn position_at(slots: &[Slot], number: u64, level: Level) -> Option<usize>
 }
 
 fn count_flying(slots: &[Slot]) -> u64
-    ensures { result ≡ length (flights_now slots.now) }
+    ensures { result ≡ length (filter is_kept slots.now) }
 {
-    slots.iter().filter(|slot| slot.at != Level::Away).count() as u64
+    let mut count = 0;
+    for slot in slots {
+        if slot.at != Level::Away {
+            count += 1;
+        }
+    }
+    count
 }
 
 fn put_away(slots: &mut Vec<Slot>)

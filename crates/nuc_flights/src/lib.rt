@@ -2,8 +2,8 @@
 #![tactic(auto)]
 
 mod flights;
-mod taken;
 mod slot;
+mod taken;
 
 pub use flights::Flights;
 pub use taken::Taken;

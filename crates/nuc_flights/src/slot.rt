@@ -1,5 +1,5 @@
 ghost use Rattle.std.specs.Prelude.{◌≡◌, Some};
-ghost use Rattle.nuc_flights.specs.Slots.{flies};
+ghost use Rattle.nuc_flights.specs.Slots.{flies, planned_slot};
 
 use crate::Taken;
 use nuc_class::Op;
@@ -27,7 +27,7 @@ pub struct Slot {
 
 impl Slot {
     pub fn planned(op: Op) -> Slot
-        ensures { result ≡ record { op = op; at = Level.Planned; was = Level.Away; came = None } }
+        ensures { result ≡ planned_slot op }
     {
         Slot {
             op,

@@ -25,7 +25,7 @@ fn upload(alloc: Global, number: u64) -> Result<Op, Fail> {
 fn fly(alloc: Global, flights: &mut Flights, number: u64) -> Result<(), Fail> {
     let mut ops = Vec::new(alloc);
     ops.push(upload(alloc, number)?)?;
-    flights.fly(ops)?;
+    flights.fly(alloc, ops)?;
     Ok(())
 }
 

@@ -3,6 +3,8 @@
 
 mod ahead;
 mod apply;
+mod local;
 mod remote;
 
+pub use local::Local;
 pub use remote::Remote;

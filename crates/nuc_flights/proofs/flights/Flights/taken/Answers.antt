@@ -23,5 +23,5 @@ returns-in-Some c =
     let there : Finds c.args.number items c.in-Some.at s = subst (λ xs. Finds c.args.number xs c.in-Some.at c.in-Some.ensures.0) c.deref.ensures.value c.in-Some.ensures.1 in
     let same : c.index.result.now ≡ s = c.index.ensures ∙ finds_at c.args.number items c.in-Some.at s c.index.result.now there in
     let x = taken_came s (found_sound c.args.number items c.in-Some.at s c.self.invariant there) c.in-Some.ensures.2 in
-    c.as_ref.ensures.value ∙ ap (λ (s : Slot). s.came) same ∙ x.1
+    ap (λ (s : Slot). s.came) same ∙ x.1
     ∙ sym (ap taken_of (ap (λ (v : FlightsState). flight_of c.args.number v.now) (sym c.self.view_is) ∙ flight_is c.args.number items c.in-Some.at s _ there (taken_stage s x.0 c.in-Some.ensures.2 x.1)))

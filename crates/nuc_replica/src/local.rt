@@ -1,0 +1,185 @@
+ghost use Rattle.std.specs.Prelude.{◌≡◌, ◌≢◌, ◌≤◌, ◌<◌, ◌+◌, [], ℕ, None, Some, IsSomeAnd, OnOk, OnErr};
+ghost use Rattle.std.specs.FinMap as map;
+ghost use Rattle.nuc_base.specs.Kinds.{FitsKind};
+ghost use Rattle.nuc_base.specs.Legal.{LegalPut, LegalCut};
+ghost use Rattle.nuc_base.specs.Trees.{IsThere, WellFormed};
+ghost use Rattle.nuc_observe.specs.Keys.{HasAlone, IsUnheld};
+ghost use Rattle.nuc_replica.specs.Local.{AreLocal, ChangedKeys, ChangedLocal, HaveKeys, KeepsLocal, handed_over};
+ghost use Rattle.nuc_undo.specs.Laid.{with_node};
+
+use nuc_base::{Node, NodeId, TreeLike};
+use nuc_folder::Key;
+use nuc_observe::{Keys, keys_are_one_to_one};
+use nuc_undo::UndoTree;
+use std::alloc::{AllocError, Global};
+use std::marker::Model;
+
+/// The folder as a client last observed it: a tree, and the key of the folder that each of its identities has.
+///
+/// A change takes a fixed number of calls of the tree, and time in the number of keys where an identity comes or goes;
+/// `back` makes as many changes as there are to take back.
+#[derive(Drop)]
+pub struct Local<T: TreeLike> {
+    tree: UndoTree<T>,
+    keys: Keys,
+}
+
+impl<T: TreeLike> Model for Local<T> {
+    ghost use Rattle.nuc_replica.specs.Local.{IsLocal, LocalStates, locals_code, locals_of};
+
+    ghost Value = { LocalStates };
+
+    ghost coded = { locals_code };
+
+    ghost view = { λ l. locals_of l.tree l.keys };
+
+    ghost invariant = { λ l. AreLocal (locals_of l.tree l.keys) };
+}
+
+impl<T: TreeLike> Local<T> {
+    /// What these make together, settled, with nothing laid by. It takes no memory.
+    pub fn of(alloc: Global, tree: T, keys: Keys) -> Local<T>
+        requires form { WellFormed (T.nodes tree) }
+        requires keys { HaveKeys (T.nodes tree) keys.now }
+        requires settled { keys.past ≡ [] }
+        ensures now { result.now ≡ record { tree = T.nodes tree; keys = keys.now } }
+        ensures settled { result.settled ≡ result.now }
+        ensures laid { result.laid ≡ map.empty }
+        ensures laid_then { result.laid_then ≡ map.empty }
+    {
+        keys_are_one_to_one(&keys);
+        Local {
+            tree: UndoTree::of(alloc, tree),
+            keys,
+        }
+    }
+
+    pub fn tree(&self) -> &T
+        ensures nodes { T.nodes result.now ≡ self.now.now.tree }
+        ensures sound { AreLocal self.now }
+    {
+        self.tree.tree()
+    }
+
+    pub fn keys(&self) -> &Keys
+        ensures { result.now.now ≡ self.now.now.keys }
+    {
+        &self.keys
+    }
+
+    /// Makes room for that many more changes of one identity. Where the room is there already, it can't fail.
+    pub fn reserve(&mut self, n: u64) -> Result<(), AllocError>
+        ensures ok { OnOk result (n ≤ self.new.spare) }
+        ensures keeps { KeepsLocal self.old self.new }
+        ensures laid { self.new.laid ≡ self.old.laid }
+        ensures laid_then { self.new.laid_then ≡ self.old.laid_then }
+    {
+        self.tree.reserve(n)?;
+        self.keys.reserve(n)
+    }
+
+    /// Lays a node by under a number, as `UndoTree::lay_by` does.
+    pub fn lay_by(&mut self, number: u64, node: Node) -> Result<(), AllocError>
+        requires free { map.get self.old.laid number ≡ map.get self.old.laid_then number }
+        requires fits { FitsKind node }
+        ensures laid { OnOk result (self.new.laid ≡ map.insert self.old.laid number node) }
+        ensures laid_then { OnOk result (self.new.laid_then ≡ map.insert self.old.laid_then number node) }
+        ensures err_laid { OnErr result (self.new.laid ≡ self.old.laid) }
+        ensures err_laid_then { OnErr result (self.new.laid_then ≡ self.old.laid_then) }
+        ensures keeps { KeepsLocal self.old self.new }
+    {
+        self.tree.lay_by(number, node)
+    }
+
+    /// Gives an identity that is there the node that is laid by under this number, where that is known to be legal. It
+    /// keeps its key.
+    pub fn put_laid(&mut self, number: u64, id: NodeId)
+        requires there { IsThere self.old.now.tree id.0 }
+        requires room { 0 < self.old.spare }
+        requires legal { IsSomeAnd (map.get self.old.laid number) (λ node. LegalPut self.old.now.tree id.0 node) }
+        ensures now { self.new.now ≡ record self.old.now { tree = with_node self.old.now.tree id.0 (map.get self.old.laid number) } }
+        ensures laid { self.new.laid ≡ map.remove self.old.laid number }
+        ensures changed { ChangedLocal self.old 1 self.new }
+    {
+        self.tree.put_laid(number, id);
+    }
+
+    /// The same for an identity that isn't there: it comes with this key.
+    pub fn add_laid(&mut self, number: u64, id: NodeId, key: Key)
+        requires id { 0 < id.0 }
+        requires absent { map.get self.old.now.tree id.0 ≡ None }
+        requires key { 0 < key.0 }
+        requires free { IsUnheld self.old.now.keys key.0 }
+        requires room { 0 < self.old.spare }
+        requires legal { IsSomeAnd (map.get self.old.laid number) (λ node. LegalPut self.old.now.tree id.0 node) }
+        ensures now { self.new.now ≡ record { tree = with_node self.old.now.tree id.0 (map.get self.old.laid number); keys = map.insert self.old.now.keys id.0 key.0 } }
+        ensures laid { self.new.laid ≡ map.remove self.old.laid number }
+        ensures changed { ChangedLocal self.old 1 self.new }
+    {
+        self.tree.put_laid(number, id);
+        put_key(&mut self.keys, id, key);
+    }
+
+    /// Takes a node out of the tree that is known to be there without children, and its key with it.
+    pub fn cut(&mut self, id: NodeId)
+        requires room { 0 < self.old.spare }
+        requires legal { LegalCut self.old.now.tree id.0 }
+        ensures now { self.new.now ≡ record { tree = map.remove self.old.now.tree id.0; keys = map.remove self.old.now.keys id.0 } }
+        ensures laid { self.new.laid ≡ self.old.laid }
+        ensures changed { ChangedLocal self.old 1 self.new }
+    {
+        let Ok(()) = self.tree.cut(id) else {
+            unreachable!()
+        };
+        cut_key(&mut self.keys, id);
+    }
+
+    /// Another identity comes, with the node that is laid by and the key of this one, and this one goes.
+    pub fn hand_over(&mut self, number: u64, id: NodeId, to: NodeId)
+        requires to { 0 < to.0 }
+        requires absent { map.get self.old.now.tree to.0 ≡ None }
+        requires room { 1 < self.old.spare }
+        requires put { IsSomeAnd (map.get self.old.laid number) (λ node. LegalPut self.old.now.tree to.0 node) }
+        requires cut { LegalCut (with_node self.old.now.tree to.0 (map.get self.old.laid number)) id.0 }
+        requires other { id.0 ≢ to.0 }
+        ensures now { self.new.now ≡ handed_over self.old.now id.0 to.0 (map.get self.old.laid number) }
+        ensures laid { self.new.laid ≡ map.remove self.old.laid number }
+        ensures changed { ChangedLocal self.old 2 self.new }
+    {
+        let Some(key) = self.keys.key_of(id) else {
+            unreachable!()
+        };
+        self.tree.put_laid(number, to);
+        let Ok(()) = self.tree.cut(id) else {
+            unreachable!()
+        };
+        cut_key(&mut self.keys, id);
+        put_key(&mut self.keys, to, key);
+    }
+}
+
+/// Gives an identity a key that nobody has, where there is room for it.
+fn put_key(keys: &mut Keys, id: NodeId, key: Key)
+    requires id { 0 < id.0 }
+    requires key { 0 < key.0 }
+    requires free { IsUnheld keys.old.now key.0 }
+    requires room { 0 < keys.old.spare }
+    ensures now { keys.new.now ≡ map.insert keys.old.now id.0 key.0 }
+    ensures changed { ChangedKeys keys.old keys.new }
+{
+    let Ok(()) = keys.put(id, key) else {
+        unreachable!()
+    };
+}
+
+/// Takes its key from an identity, where there is room to note that.
+fn cut_key(keys: &mut Keys, id: NodeId)
+    requires room { 0 < keys.old.spare }
+    ensures now { keys.new.now ≡ map.remove keys.old.now id.0 }
+    ensures freed { (k : ℕ) → HasAlone keys.old.now id.0 k → IsUnheld keys.new.now k }
+    ensures changed { ChangedKeys keys.old keys.new }
+{
+    let Ok(()) = keys.cut(id) else {
+        unreachable!()
+    };
+}
