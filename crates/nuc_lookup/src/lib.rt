@@ -3,6 +3,8 @@
 
 mod lookup;
 mod row;
+#[cfg(test)]
+mod tests;
 mod undo;
 mod undo_lookup;
 
