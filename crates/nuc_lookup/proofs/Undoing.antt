@@ -37,7 +37,7 @@ kept_if_absent (Ok done) m k x ok err none = ok ∙ cut_absent m x none
 kept_if_absent (Err e) m k x ok err none = err
 
 -- it adds a row at most, and takes one at most
-one_more : (m : Numbers) (x : ℕ) (to : Option ℕ) → len (led m x to) ≤ len m + 1
+pub one_more : (m : Numbers) (x : ℕ) (to : Option ℕ) → len (led m x to) ≤ len m + 1
 one_more m x None = elim (get m x) as (λ o. get m x ≡ o → len (remove m x) ≤ len m + 1) [
   | None ↦ λ e. omega (arith, len_cut_none m x e)
   | Some k ↦ λ e. omega (arith, len_cut m x k e)
@@ -82,6 +82,9 @@ grown m (u ∷ us) =
     let rest = grown m us in
     let step = one_fewer (first_of m us) u.from u.before in
     omega (arith, rest, step)
+
+pub grown_past : (m : Numbers) (us : List Undo) → len m ≤ len (first_or (past_of m us) m) + length (past_of m us)
+grown_past m us = omega (arith, grown m us, ap len (first_is m us), length_past m us)
 
 -- ONE MORE
 module _ (m k : Numbers) (us vs : List Undo) (u : Undo) (to : Option ℕ) (is : k ≡ led m u.from to) (had : u.before ≡ get m u.from) (noted : vs ≡ us ++ u ∷ []) where

@@ -7,7 +7,9 @@ mod row;
 mod tests;
 mod undo;
 mod undo_lookup;
+mod undone;
 
 pub use lookup::Lookup;
 pub use row::Row;
 pub use undo_lookup::UndoLookup;
+pub use undone::Undone;

@@ -17,7 +17,9 @@ fn take(lookup: &mut UndoLookup, step: Step) -> Result<(), AllocError> {
     match step {
         Step::Put(from, to) => lookup.put(from, to)?,
         Step::Cut(from) => lookup.cut(from)?,
-        Step::Undo => lookup.undo_last(),
+        Step::Undo => {
+            lookup.undo_last();
+        }
         Step::Settle => lookup.settle(),
         Step::Back => lookup.back(),
     }
@@ -98,18 +100,48 @@ fn changes_in_reserved_room(rt: HostRuntime) -> Result<(), Fail> {
     Ok(())
 }
 
-/// Without undo: each call says where the number led before.
+#[test]
+fn says_what_was_undone(rt: HostRuntime) -> Result<(), Fail> {
+    let mut lookup = UndoLookup::new(rt.alloc());
+    lookup.put(1, 8)?;
+    lookup.settle();
+    lookup.set(1, Some(9))?;
+    lookup.cut(1)?;
+    assert_eq!(rt; lookup.settled_len(), 1);
+    assert_eq!(rt; lookup.changes(), 2);
+    let cut = Undone {
+        from: 1,
+        after: None,
+        before: Some(9),
+    };
+    assert_eq!(rt; lookup.undo_last(), Some(cut));
+    let put = Undone {
+        from: 1,
+        after: Some(9),
+        before: Some(8),
+    };
+    assert_eq!(rt; lookup.undo_last(), Some(put));
+    assert_eq!(rt; lookup.undo_last(), None);
+    assert_eq!(rt; lookup.get(1), Some(8));
+    Ok(())
+}
+
+fn put_in_room(rt: &impl Abort, lookup: &mut Lookup, from: u64, to: u64) -> Option<u64> {
+    assert!(rt; lookup.len() < lookup.room());
+    lookup.put(from, to)
+}
+
+/// Without undo each change says where the number led before.
 #[test]
 fn says_what_was_before(rt: HostRuntime) -> Result<(), Fail> {
     let mut lookup = Lookup::new(rt.alloc());
-    lookup.grow(2)?;
-    assert!(rt; lookup.room() >= 2);
-    assert_eq!(rt; lookup.put(5, 6), None);
-    assert_eq!(rt; lookup.put(5, 7), Some(6));
-    assert_eq!(rt; lookup.set(4, Some(1)), None);
+    lookup.grow(3)?;
+    assert_eq!(rt; put_in_room(&rt, &mut lookup, 5, 6), None);
+    assert_eq!(rt; put_in_room(&rt, &mut lookup, 5, 7), Some(6));
+    assert_eq!(rt; put_in_room(&rt, &mut lookup, 4, 1), None);
     assert_eq!(rt; lookup.len(), 2);
     assert_eq!(rt; lookup.get(5), Some(7));
-    assert_eq!(rt; lookup.set(4, None), Some(1));
+    assert_eq!(rt; lookup.cut(4), Some(1));
     assert_eq!(rt; lookup.cut(4), None);
     lookup.cut_any(Some(5));
     lookup.cut_any(None);

@@ -5,7 +5,8 @@ use Rattle.nuc_lookup.proofs.undo_lookup.UndoLookup.back.Given as goal
 abbrev pub invariant-loop : goal.invariant-loop
 invariant-loop l = record {
   settled : settled_of l.self ≡ settled_of l.initial.self;
-  end : l.end ≡ length l.initial.self.past;
-  left : length l.self.past + l.counter ≡ length l.initial.self.past;
-  spare : l.initial.self.spare + l.counter ≤ l.self.spare;
+  spare : l.initial.self.spare + length l.initial.self.past ≤ l.self.spare + length l.self.past;
 }
+
+abbrev pub decreases-loop : goal.decreases-loop
+decreases-loop l = length l.self.past

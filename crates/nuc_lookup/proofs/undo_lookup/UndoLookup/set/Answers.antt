@@ -1,8 +1,8 @@
-use Rattle.std.proofs.Common.{ap, ◌∙◌, sym, arith, ◌++◌, ◌∷◌, []}
+use Rattle.std.proofs.Common.{ap, ◌∙◌, arith, ◌++◌, ◌∷◌, []}
 use Rattle.nuc_lookup.specs.State.{first_or}
 use Rattle.nuc_lookup.specs.declared.undo.Undo.{Undo}
 use Rattle.nuc_lookup.proofs.Undoing.{change_kept, change_past, change_room, change_settled}
-use Rattle.nuc_lookup.proofs.undo_lookup.UndoLookup.change.Goals as goal
+use Rattle.nuc_lookup.proofs.undo_lookup.UndoLookup.set.Goals as goal
 
 pub set-before-requires : goal.set-before-requires
 set-before-requires c =
