@@ -1,5 +1,6 @@
 -- A change that is taken back, and what is kept for that.
-use Rattle.std.proofs.Common.{◌≡◌, ◌<◌, ◌≤◌, ◌+◌, ℕ, List, [], ◌∷◌, length, None, Some, refl, sym, subst, inl, inr, arith}
+use Rattle.std.proofs.Common.{◌≡◌, ◌<◌, ◌≤◌, ◌+◌, ℕ, List, [], ◌∷◌, length, reverse, ◌++◌, ap, ◌∙◌, None, Some, refl, sym, subst, inl, inr, arith}
+use Rattle.std.proofs.lemmas.List.{reverse-append}
 use Rattle.std.specs.FinMap.{get, insert, remove}
 use Rattle.nuc_base.specs.Legal.{LegalPut}
 use Rattle.nuc_base.specs.Trees.{Nodes, IsThere, WellFormed}
@@ -66,3 +67,13 @@ above_root m x form (n, at) = elim (same_or_not x 0) [
   | inl root ↦ absurd (not_both m x n (subst (λ y. get m y ≡ None) (sym root) form.no_root) at)
   | inr other ↦ omega arith
 ]
+
+-- THE LAST CHANGE
+pub last_first : (before after : List Step) (s : Step) → before ≡ after ++ s ∷ [] → reverse before ≡ s ∷ reverse after
+last_first before after s is = ap reverse is ∙ reverse-append after (s ∷ [])
+
+pub past_put : (m now : Nodes) (x : ℕ) (s : Step) (steps : List Step) → TakesBack m now x s.undo → past_of now (s ∷ steps) ≡ record { nodes = m; id = x } ∷ past_of m steps
+past_put m now x s steps back = λ i. record { nodes = back.same i; id = back.whose i } ∷ past_of (back.same i) steps
+
+pub undos_put : (m now : Nodes) (x : ℕ) (s : Step) (steps : List Step) → TakesBack m now x s.undo → AreUndoable m steps → AreUndoable now (s ∷ steps)
+undos_put m now x s steps back able = (back.able, subst (λ n. AreUndoable n steps) (sym back.same) able)

@@ -1,5 +1,5 @@
 -- What slots say of the nodes that they stand for.
-use Rattle.std.proofs.Common.{◌≡◌, ℕ, List, get_or, set, Option, Some, None, refl, sym, ap, subst, ◌∙◌, inl, inr}
+use Rattle.std.proofs.Common.{◌≡◌, ℕ, Bool, true, false, cond, List, get_or, set, Option, Some, None, refl, sym, ap, subst, ◌∙◌, inl, inr}
 use Rattle.std.specs.List.{insert}
 use Rattle.std.specs.FinMap as map
 use Rattle.nuc_base.proofs.Maps.{same_or_not, same_nodes, get_put_same, get_put_other, get_cut_same, get_cut_other}
@@ -47,14 +47,17 @@ module _ (s items : List Slot) (laid : Laid) (numbers : List ℕ) (same : s ≡ 
     | inr apart ↦ get_set_other x None items i q (found x i f) apart ∙ ap (λ m. map.get m q) view ∙ sym (get_cut_other laid x q apart)
   ])
 
-  pub insert_rises : (x i : ℕ) (o : Option Node) → IsGap x s i → IsRising (insert items i (slot_of x o))
-  insert_rises x i o g = rising_insert x o items i rising (gap x i g)
-
   pub insert_full : (x i : ℕ) (n : Node) → IsGap x s i → laid_of (insert items i (slot_of x (Some n))) ≡ map.insert laid x n
   insert_full x i n g = same_nodes _ _ (λ q. elim (same_or_not q x) [
     | inl e ↦ rw e (get_insert_same x (Some n) items i rising (gap x i g) ∙ sym (get_put_same laid x n))
     | inr apart ↦ get_insert_other x (Some n) items i q apart ∙ ap (λ m. map.get m q) view ∙ sym (get_put_other laid x n q apart)
   ])
 
-  pub insert_numbers : (x i : ℕ) (o : Option Node) → HasAll numbers (numbers_of (insert items i (slot_of x o)))
-  insert_numbers x i o = subst (λ ns. HasAll ns (numbers_of (insert items i (slot_of x o)))) named (has_insert x o items i)
+  -- a slot was inserted, or there was no memory
+  pub insert_rises : (x i : ℕ) (o : Option Node) (is : Bool) (after : List Slot) → IsGap x s i → after ≡ cond is (insert items i (slot_of x o)) items → IsRising after
+  insert_rises x i o true after g e = subst IsRising (sym e) (rising_insert x o items i rising (gap x i g))
+  insert_rises x i o false after g e = subst IsRising (sym e) rising
+
+  pub insert_numbers : (x i : ℕ) (o : Option Node) (is : Bool) (after : List Slot) → after ≡ cond is (insert items i (slot_of x o)) items → HasAll numbers (numbers_of after)
+  insert_numbers x i o true after e q has = subst (λ l. Has (numbers_of l) q) (sym e) (has_insert x o items i q (subst (λ ns. Has ns q) (sym named) has))
+  insert_numbers x i o false after e q has = subst (λ l. Has (numbers_of l) q) (sym e) (subst (λ ns. Has ns q) (sym named) has)

@@ -104,10 +104,11 @@ impl Stock {
     pub(crate) fn settle(&mut self)
         ensures { self.new.laid ≡ self.old.laid }
     {
-        if self.was_taken {
-            self.slots.retain(|slot| slot.node.is_some());
-            self.was_taken = false;
+        if !self.was_taken {
+            return;
         }
+        self.slots.retain(|slot| slot.node.is_some());
+        self.was_taken = false;
     }
 
     /// Nothing is laid by any more, nor can be given back.

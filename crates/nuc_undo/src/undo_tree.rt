@@ -179,12 +179,12 @@ impl<T: TreeLike> UndoTree<T> {
         ensures settled { settled_of self.new ≡ settled_of self.old }
         ensures form { WellFormed self.new.now }
     {
-        let Some(Step { undo, number }) = self.steps.pop() else {
+        let Some(step) = self.steps.pop() else {
             return false;
         };
-        self.kept -= undo.owed();
-        let node = take_back(&mut self.tree, undo);
-        self.stock.give_back(number, node);
+        self.kept -= step.undo.owed();
+        let node = take_back(&mut self.tree, step.undo);
+        self.stock.give_back(step.number, node);
         true
     }
 
