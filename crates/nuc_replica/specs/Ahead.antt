@@ -1,7 +1,8 @@
 -- How a remote keeps the entries that it has heard of, and the room to apply them.
-use Rattle.std.specs.Prelude.{◌≡◌, ◌+◌, ◌-◌, ◌<◌, ◌≤◌, ℕ, List, [], length, min, take, drop, slice_get, Option, None, Some, refl}
+use Rattle.std.specs.Prelude.{◌≡◌, ◌+◌, ◌-◌, ◌<◌, ◌≤◌, ℕ, All, IfSome, List, [], length, min, take, drop, slice_get, Option, None, Some, refl}
 use Rattle.std.specs.Coded.{Coded, code_by, coded×, coded_ℕ, coded_list}
 use Rattle.std.specs.FinMap.{get}
+use Rattle.nuc_base.specs.Kinds.{FitsKind}
 use Rattle.nuc_base.specs.Trees.{Nodes}
 use Rattle.nuc_base.specs.declared.node.Node.{Node}
 use Rattle.nuc_journal.specs.State.{entry_code}
@@ -26,10 +27,10 @@ ahead_code = code_by (List Entry × (ℕ × (ℕ × ℕ))) (coded× (coded_list 
     (λ _. refl)
 
 -- no more are applied than there are
-pub record IsAhead (entries : List Entry) (applied settled_applied settled_len : ℕ) : Type 0 where
-  pub applied : applied ≤ length entries
-  pub settled_applied : settled_applied ≤ settled_len
-  pub settled_len : settled_len ≤ length entries
+pub record IsAhead (a : AheadState) : Type 0 where
+  pub applied : a.applied ≤ length a.entries
+  pub settled_applied : a.settled_applied ≤ a.settled_len
+  pub settled_len : a.settled_len ≤ length a.entries
 
 -- the entries that aren't applied
 abbrev pub ahead_now : AheadState → List Entry

@@ -29,7 +29,7 @@ impl Model for Ahead {
 
     ghost view = { λ a. record { entries = a.entries.items; applied = a.applied; settled_applied = a.settled_applied; settled_len = a.settled_len } };
 
-    ghost invariant = { λ a. IsAhead a.entries.items a.applied a.settled_applied a.settled_len };
+    ghost invariant = { λ a. IsAhead (record { entries = a.entries.items; applied = a.applied; settled_applied = a.settled_applied; settled_len = a.settled_len }) };
 }
 
 impl Ahead {

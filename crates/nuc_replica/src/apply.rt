@@ -1,6 +1,6 @@
-ghost use Rattle.std.specs.Prelude.{◌≡◌, ◌≢◌, ◌<◌, ◌≤◌, ◌+◌, ℕ, length, IfOk, OnOk, OnErr};
+ghost use Rattle.std.specs.Prelude.{◌≡◌, ◌≢◌, ◌<◌, ◌≤◌, ◌+◌, ◌^◌, ℕ, length, IfOk, IfSome, OnOk, OnErr};
 ghost use Rattle.std.specs.FinMap as map;
-ghost use Rattle.nuc_base.specs.Trees.{WellFormed};
+ghost use Rattle.nuc_base.specs.Kinds.{FitsKind};
 ghost use Rattle.nuc_journal.specs.Entries.{with_value};
 ghost use Rattle.nuc_journal.specs.Journal.{IsLegalValue};
 ghost use Rattle.nuc_lookup.specs.State as lookup;
@@ -9,7 +9,7 @@ ghost use Rattle.nuc_undo.specs.Steps.{Changed, Keeps, KeepsTree};
 ghost use Rattle.nuc_replica.specs.Ahead.{AreLaidFrom, AreUntaken, Lies, NodesFit};
 ghost use Rattle.nuc_replica.specs.Remote.{with_revision};
 
-use nuc_base::TreeLike;
+use nuc_base::{Node, TreeLike};
 use nuc_journal::Entry;
 use nuc_lookup::UndoLookup;
 use nuc_undo::UndoTree;
@@ -27,7 +27,6 @@ pub fn apply<T: TreeLike>(
     ensures changed { OnOk result (Changed tree.old entry.now.id.0 tree.new) }
     ensures laid { OnOk result (tree.new.laid ≡ tree.old.laid) }
     ensures settled { settled_of tree.new ≡ settled_of tree.old }
-    ensures form { WellFormed tree.new.now }
     ensures err { OnErr result (Keeps tree.old tree.new) }
 {
     match &entry.value {
@@ -46,7 +45,6 @@ pub fn apply_laid<T: TreeLike>(tree: &mut UndoTree<T>, number: u64, entry: &Entr
     ensures changed { Changed tree.old entry.now.id.0 tree.new }
     ensures laid { (i : ℕ) → i ≢ number → map.get tree.new.laid i ≡ map.get tree.old.laid i }
     ensures settled { settled_of tree.new ≡ settled_of tree.old }
-    ensures form { WellFormed tree.new.now }
 {
     match &entry.value {
         Some(_) => tree.put_laid(number, entry.id),
@@ -95,17 +93,37 @@ pub fn lay_by<T: TreeLike>(
     requires untaken { AreUntaken tree.old first }
     requires places { first + length entries.now < 2 ^ 64 }
     ensures ok { OnOk result (AreLaidFrom first tree.new.laid entries.now) }
-    ensures before { (i : ℕ) → i < first → (map.get tree.new.laid i ≡ map.get tree.old.laid i) × (map.get tree.new.laid_then i ≡ map.get tree.old.laid_then i) }
+    ensures before { (i : ℕ) → i < first → map.get tree.new.laid i ≡ map.get tree.old.laid i }
+    ensures before_then { (i : ℕ) → i < first → map.get tree.new.laid_then i ≡ map.get tree.old.laid_then i }
     ensures untaken { AreUntaken tree.new first }
     ensures keeps { KeepsTree tree.old tree.new }
-    ensures form { WellFormed tree.new.now }
 {
-    let mut number = first;
-    for entry in entries {
-        if let Some(node) = &entry.value {
-            tree.lay_by(number, node.copy(alloc)?)?;
-        }
-        number += 1;
+    for (i, entry) in entries.iter().enumerate() {
+        lay_one(alloc, tree, first + i as u64, &entry.value)?;
     }
     Ok(())
+}
+
+/// Lays a copy of a node by under this number, where there is one.
+fn lay_one<T: TreeLike>(
+    alloc: Global,
+    tree: &mut UndoTree<T>,
+    number: u64,
+    value: &Option<Node>,
+) -> Result<(), AllocError>
+    requires fits { IfSome value.now FitsKind }
+    requires free { map.get tree.old.laid number ≡ map.get tree.old.laid_then number }
+    ensures ok { OnOk result (Lies tree.new.laid number value.now) }
+    ensures free { map.get tree.new.laid number ≡ map.get tree.new.laid_then number }
+    ensures others { (i : ℕ) → i ≢ number → map.get tree.new.laid i ≡ map.get tree.old.laid i }
+    ensures others_then { (i : ℕ) → i ≢ number → map.get tree.new.laid_then i ≡ map.get tree.old.laid_then i }
+    ensures keeps { KeepsTree tree.old tree.new }
+{
+    match value {
+        Some(node) => {
+            tree.lay_by(number, node.copy(alloc)?)?;
+            Ok(())
+        }
+        None => Ok(()),
+    }
 }

@@ -1,0 +1,91 @@
+-- What entries make of a remote's state, one by one.
+use Rattle.std.proofs.Common.{◌≡◌, ◌≢◌, ◌+◌, ◌<◌, ◌≤◌, ℕ, zero, suc, List, [], ◌∷◌, length, take, drop, Option, None, Some, refl, sym, ◌∙◌, ap, subst, inl, inr, arith}
+use Rattle.std.specs.FinMap.{get, insert, remove}
+use Rattle.nuc_base.specs.Trees.{Nodes, WellFormed}
+use Rattle.nuc_base.specs.declared.node.Node.{Node}
+use Rattle.nuc_base.proofs.Forms.{cut_keeps, put_keeps}
+use Rattle.nuc_base.proofs.Maps.{get_cut_other, get_cut_same, get_put_other, get_put_same, same_or_not}
+use Rattle.nuc_journal.specs.Entries.{tree_after, with_value}
+use Rattle.nuc_journal.specs.Journal.{IsLegalValue}
+use Rattle.nuc_journal.specs.declared.entry.Entry.{Entry}
+use Rattle.nuc_lookup.proofs.Maps as numbers
+use Rattle.nuc_lookup.specs.Rows.{Numbers}
+use Rattle.nuc_replica.specs.Remote.{Agree, Follows, GoesOn, HasRevision, HaveRevisions, IsRemote, RemoteState, revisions_after, with_entries, with_revision}
+
+-- ENTRY BY ENTRY
+drop_none : {X : Type 0} (n : ℕ) → ◌≡◌ {A = List X} (drop n []) []
+drop_none zero = refl
+drop_none (suc n) = refl
+
+drop_one : {X : Type 0} (x : X) (xs ys : List X) → drop (length (x ∷ xs)) ys ≡ drop (length xs) (drop 1 ys)
+drop_one x xs [] = drop_none (length xs)
+drop_one x xs (y ∷ ys) = refl
+
+pub no_entry : (s : RemoteState) → with_entries s [] ≡ s
+no_entry s = refl
+
+same_state : (s t : RemoteState) → s.tree ≡ t.tree → s.revisions ≡ t.revisions → s.cursor ≡ t.cursor → s.ahead ≡ t.ahead → s ≡ t
+same_state s t a b c d = cc
+
+pub entry_by_entry : (s : RemoteState) (e : Entry) (es : List Entry) → with_entries s (e ∷ es) ≡ with_entries (with_entries s (e ∷ [])) es
+entry_by_entry s e es =
+    let cursor : s.cursor + length (e ∷ es) ≡ (s.cursor + 1) + length es = omega arith in
+    let ahead = drop_one e es s.ahead in
+    same_state _ _ refl refl cursor ahead
+
+agree_rest : (e : Entry) (heard es : List Entry) → Agree heard (e ∷ es) → Agree (drop 1 heard) es
+agree_rest e [] es agree = tt
+agree_rest e (a ∷ heard) es agree = agree.1
+
+agree_first : (e : Entry) (heard es : List Entry) → Agree heard (e ∷ es) → Agree heard (e ∷ [])
+agree_first e [] es agree = tt
+agree_first e (a ∷ []) es agree = (agree.0, tt)
+agree_first e (a ∷ b ∷ heard) es agree = (agree.0, tt)
+
+pub follows_first : (s : RemoteState) (e : Entry) (es : List Entry) → Follows s (e ∷ es) → Follows s (e ∷ [])
+follows_first s e es follows = record { goes_on = (follows.goes_on.0, tt); agrees = agree_first e s.ahead es follows.agrees }
+
+pub follows_rest : (s : RemoteState) (e : Entry) (es : List Entry) → Follows s (e ∷ es) → Follows (with_entries s (e ∷ [])) es
+follows_rest s e es follows = record { goes_on = follows.goes_on.1; agrees = agree_rest e s.ahead es follows.agrees }
+
+-- WHAT STAYS SO
+value_form : (m : Nodes) (x : ℕ) (v : Option Node) → WellFormed m → 0 < x → IsLegalValue m x v → WellFormed (with_value m x v)
+value_form m x None form above legal = cut_keeps m x form legal
+value_form m x (Some n) form above legal = put_keeps m x n form legal.1 above legal.0
+
+value_same : (m : Nodes) (revisions : Numbers) (x rev cursor : ℕ) (v : Option Node) → 0 < rev → rev ≤ cursor
+    → HasRevision (get (with_value m x v) x) (get (with_revision revisions x v rev) x) cursor
+value_same m revisions x rev cursor None above within = rw (get_cut_same m x, numbers.get_cut_same revisions x) tt
+value_same m revisions x rev cursor (Some n) above within = rw (get_put_same m x n, numbers.get_put_same revisions x rev) (above, within)
+
+value_other : (m : Nodes) (revisions : Numbers) (x rev cursor : ℕ) (v : Option Node) (y : ℕ) → y ≢ x → HasRevision (get m y) (get revisions y) cursor
+    → HasRevision (get (with_value m x v) y) (get (with_revision revisions x v rev) y) cursor
+value_other m revisions x rev cursor None y apart has = rw (get_cut_other m x y apart, numbers.get_cut_other revisions x y apart) has
+value_other m revisions x rev cursor (Some n) y apart has = rw (get_put_other m x n y apart, numbers.get_put_other revisions x rev y apart) has
+
+has_later : (node : Option Node) (rev : Option ℕ) (cursor later : ℕ) → cursor ≤ later → HasRevision node rev cursor → HasRevision node rev later
+has_later None None cursor later le has = tt
+has_later None (Some r) cursor later le has = has
+has_later (Some n) None cursor later le has = has
+has_later (Some n) (Some r) cursor later le has = (has.0, omega (arith, has.1))
+
+revisions_with : (m : Nodes) (revisions : Numbers) (cursor x : ℕ) (v : Option Node) (rev : ℕ) → rev ≡ cursor + 1 → HaveRevisions m revisions cursor
+    → HaveRevisions (with_value m x v) (with_revision revisions x v rev) (cursor + 1)
+revisions_with m revisions cursor x v rev next have y = elim (same_or_not y x) [
+  | inl same ↦ subst (λ z. HasRevision (get (with_value m x v) z) (get (with_revision revisions x v rev) z) (cursor + 1)) (sym same)
+      (value_same m revisions x rev (cursor + 1) v (omega arith) (omega arith))
+  | inr apart ↦ value_other m revisions x rev (cursor + 1) v y apart (has_later _ _ cursor (cursor + 1) (omega arith) (have y))
+]
+
+ahead_with : (cursor : ℕ) (m : Nodes) (heard : List Entry) (e : Entry) → Agree heard (e ∷ []) → GoesOn cursor m heard → GoesOn (cursor + 1) (with_value m e.id.0 e.value) (drop 1 heard)
+ahead_with cursor m [] e agree on = tt
+ahead_with cursor m (a ∷ heard) e agree on = subst (λ (f : Entry). GoesOn (cursor + 1) (with_value m f.id.0 f.value) heard) agree.0 on.1
+
+pub remote_with : (s : RemoteState) (e : Entry) → IsRemote s → Follows s (e ∷ []) → IsRemote (with_entries s (e ∷ []))
+remote_with s e remote follows =
+    let next = follows.goes_on.0 in
+    record {
+      form = value_form s.tree e.id.0 e.value remote.form next.id next.legal;
+      revisions = revisions_with s.tree s.revisions s.cursor e.id.0 e.value e.rev next.rev remote.revisions;
+      ahead = ahead_with s.cursor s.tree s.ahead e follows.agrees remote.ahead;
+    }
