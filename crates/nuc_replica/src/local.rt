@@ -25,7 +25,7 @@ pub struct Local<T: TreeLike> {
 }
 
 impl<T: TreeLike> Model for Local<T> {
-    ghost use Rattle.nuc_replica.specs.Local.{IsLocal, LocalStates, locals_code, locals_of};
+    ghost use Rattle.nuc_replica.specs.Local.{AreLocal, LocalStates, locals_code, locals_of};
 
     ghost Value = { LocalStates };
 
@@ -179,7 +179,5 @@ fn cut_key(keys: &mut Keys, id: NodeId)
     ensures freed { (k : ℕ) → HasAlone keys.old.now id.0 k → IsUnheld keys.new.now k }
     ensures changed { ChangedKeys keys.old keys.new }
 {
-    let Ok(()) = keys.cut(id) else {
-        unreachable!()
-    };
+    let Ok(()) = keys.cut(id) else { unreachable!() };
 }
