@@ -3,6 +3,7 @@ use Rattle.std.specs.Prelude.{◌&&◌, All, IsSomeAnd}
 use Rattle.std.specs.List.{filter, position, cons_option}
 use Rattle.std.proofs.Common.{◌≡◌, ◌≢◌, ◌<◌, ◌≤◌, ◌+◌, ◌==◌, ℕ, zero, suc, Bool, true, false, cond, List, [], ◌∷◌, ◌++◌, length, map, take, drop, get_or, Option, None, Some, refl, sym, ◌∙◌, ap, subst, arith}
 use Rattle.std.proofs.Math.ListN.{set}
+use Rattle.std.proofs.lemmas.List.Elements.{filter_map-append}
 use Rattle.std.proofs.lemmas.List.Quantifiers.{position-Some}
 use Rattle.nuc_folder.proofs.Inserts.{position-None}
 use Rattle.nuc_class.specs.declared.op.Op.{Op}
@@ -304,7 +305,7 @@ set_sound (x ∷ xs) (suc i) t is sound = front_sound x (set xs i t) (sound 0 x 
 pub found_sound : (n : ℕ) (slots : List Slot) (i : ℕ) (s : Slot) → All IsSound slots → Finds n slots i s → IsSound s
 found_sound n slots i s sound finds = subst IsSound (finds_at n slots i s s finds) (sound i s (finds_within n slots i s finds))
 
-pub behind_none : (fs : List Flight) → fs ++ [] ≡ fs
+behind_none : (fs : List Flight) → fs ++ [] ≡ fs
 behind_none [] = refl
 behind_none (f ∷ fs) = ap (λ fs. f ∷ fs) (behind_none fs)
 
@@ -406,11 +407,11 @@ pub land_was : (s : Slot) (x : Taken) → IsSound s → s.at ≡ level.Started �
 land_was s x sound is = was_early s.op s.was (Some x) s.came (early_of s level.Started is (λ e. e) sound)
 
 -- NEW ONES, and how many fly
-pub flights_planned : (ops : List Op) → flights_now (map planned_slot ops) ≡ map as_planned ops
+flights_planned : (ops : List Op) → flights_now (map planned_slot ops) ≡ map as_planned ops
 flights_planned [] = refl
 flights_planned (op ∷ ops) = ap (λ fs. as_planned op ∷ fs) (flights_planned ops)
 
-pub were_planned : (ops : List Op) → flights_were (map planned_slot ops) ≡ []
+were_planned : (ops : List Op) → flights_were (map planned_slot ops) ≡ []
 were_planned [] = refl
 were_planned (op ∷ ops) = were_planned ops
 
@@ -428,3 +429,27 @@ pub count_is : (slots : List Slot) → All IsSound slots → length (filter is_k
 count_is [] sound = refl
 count_is (s ∷ ss) sound =
     length_kept s ss (is_kept s) refl ∙ count_more s _ _ (sound 0 s (omega arith)) (count_is ss (rest_sound s ss sound))
+
+both_sound : (xs ys : List Slot) → All IsSound xs → All IsSound ys → All IsSound (xs ++ ys)
+both_sound [] ys first rest = rest
+both_sound (x ∷ xs) ys first rest = front_sound x (xs ++ ys) (first 0 x (omega arith)) (both_sound xs ys (rest_sound x xs first) rest)
+
+sound_planned : (ops : List Op) → All IsSound (map planned_slot ops)
+sound_planned [] = λ k d below. absurd (omega arith)
+sound_planned (op ∷ ops) = front_sound (planned_slot op) (map planned_slot ops) (record { now = tt; then = tt; order = tt }) (sound_planned ops)
+
+-- behind the slots xs, where there was memory, stand those of the operations
+abbrev pub extended : Bool → List Slot → List Op → List Slot
+extended enough xs ops = cond enough (xs ++ map planned_slot ops) xs
+
+pub extended_now : (xs : List Slot) (ops : List Op) → flights_now (extended true xs ops) ≡ flights_now xs ++ map as_planned ops
+extended_now xs ops = filter_map-append flight_now xs (map planned_slot ops) ∙ ap (λ fs. flights_now xs ++ fs) (flights_planned ops)
+
+pub extended_were : (enough : Bool) (xs : List Slot) (ops : List Op) → flights_were (extended enough xs ops) ≡ flights_were xs
+extended_were true xs ops =
+    filter_map-append flight_was xs (map planned_slot ops) ∙ ap (λ fs. flights_were xs ++ fs) (were_planned ops) ∙ behind_none (flights_were xs)
+extended_were false xs ops = refl
+
+pub extended_sound : (enough : Bool) (xs : List Slot) (ops : List Op) → All IsSound xs → All IsSound (extended enough xs ops)
+extended_sound true xs ops sound = both_sound xs (map planned_slot ops) sound (sound_planned ops)
+extended_sound false xs ops sound = sound

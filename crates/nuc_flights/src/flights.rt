@@ -1,8 +1,8 @@
-ghost use Rattle.std.specs.Prelude.{◌≡◌, ◌≢◌, ◌++◌, ◌∷◌, [], ℕ, length, map, MatchBool, MatchOption, OnOk, OnErr};
+ghost use Rattle.std.specs.Prelude.{◌≡◌, ◌≢◌, ◌++◌, ◌∷◌, [], ℕ, length, map, MatchBool, MatchOption, IfOk, OnOk, OnErr};
 ghost use Rattle.std.specs.List.{filter, position};
 ghost use Rattle.std.specs.Option.{option_copied, option_map};
 ghost use Rattle.nuc_flights.specs.Flights.{IsPlanned, IsStarted, IsTaken, StandsAt, as_planned, flight_of, taken_of, staged, taken, started, without};
-ghost use Rattle.nuc_flights.specs.Slots.{Finds, away_slot, back_slot, flies, is_kept, settled_slot};
+ghost use Rattle.nuc_flights.specs.Slots.{Finds, away_slot, back_slot, flies, is_kept, planned_slot, settled_slot};
 ghost use Rattle.nuc_flights.specs.declared.slot.Slot.{Slot};
 
 use crate::Taken;
@@ -48,7 +48,7 @@ impl Flights {
         ensures err { OnErr result (self.new.now ≡ self.old.now) }
         ensures settled { self.new.settled ≡ self.old.settled }
     {
-        let mut slots: Vec<Slot> = ops.into_iter().map(Slot::planned).collect(alloc)?;
+        let mut slots = planned_slots(alloc, ops)?;
         self.slots.append(&mut slots)
     }
 
@@ -146,6 +146,12 @@ impl Flights {
     }
 }
 
+fn planned_slots(alloc: Global, ops: Vec<Op>) -> Result<Vec<Slot>, AllocError>
+    ensures { IfOk result (λ slots. slots.items ≡ map planned_slot ops.items) }
+{
+    ops.into_iter().map(Slot::planned).collect(alloc)
+}
+
 /// Where the operation in flight under this number is.
 fn position_of(slots: &[Slot], number: u64) -> Option<usize>
     ensures { result ≡ position (flies number) slots.now }
@@ -169,16 +175,11 @@ fn position_at(slots: &[Slot], number: u64, level: Level) -> Option<usize>
     }
 }
 
+/// How many slots are of operations in flight.
 fn count_flying(slots: &[Slot]) -> u64
     ensures { result ≡ length (filter is_kept slots.now) }
 {
-    let mut count = 0;
-    for slot in slots {
-        if slot.at != Level::Away {
-            count += 1;
-        }
-    }
-    count
+    slots.iter().filter(|slot| slot.is_flying()).count() as u64
 }
 
 fn put_away(slots: &mut Vec<Slot>)
@@ -209,5 +210,5 @@ fn take_levels_back(slots: &mut Vec<Slot>)
 fn drop_away(slots: &mut Vec<Slot>)
     ensures { slots.new.items ≡ filter is_kept slots.old.items }
 {
-    slots.retain(|slot| slot.at != Level::Away);
+    slots.retain(|slot| slot.is_flying());
 }

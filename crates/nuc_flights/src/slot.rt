@@ -1,5 +1,5 @@
 ghost use Rattle.std.specs.Prelude.{◌≡◌, Some};
-ghost use Rattle.nuc_flights.specs.Slots.{flies, planned_slot};
+ghost use Rattle.nuc_flights.specs.Slots.{flies, is_kept, planned_slot};
 
 use crate::Taken;
 use nuc_class::Op;
@@ -45,10 +45,17 @@ impl Slot {
         self.came = Some(came);
     }
 
+    /// Whether it is in flight.
+    pub fn is_flying(&self) -> bool
+        ensures { result ≡ is_kept self.now }
+    {
+        self.at != Level::Away
+    }
+
     /// Whether it is in flight under this number.
     pub fn flies(&self, number: u64) -> bool
         ensures { result ≡ flies number self.now }
     {
-        self.at != Level::Away && self.op.number == number
+        self.is_flying() && self.op.number == number
     }
 }

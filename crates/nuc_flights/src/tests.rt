@@ -22,9 +22,12 @@ fn upload(alloc: Global, number: u64) -> Result<Op, Fail> {
     Ok(op)
 }
 
-fn fly(alloc: Global, flights: &mut Flights, number: u64) -> Result<(), Fail> {
+/// Puts a batch of uploads in flight, under these numbers.
+fn fly(alloc: Global, flights: &mut Flights, numbers: &[u64]) -> Result<(), Fail> {
     let mut ops = Vec::new(alloc);
-    ops.push(upload(alloc, number)?)?;
+    for number in numbers {
+        ops.push(upload(alloc, *number)?)?;
+    }
     flights.fly(alloc, ops)?;
     Ok(())
 }
@@ -37,7 +40,7 @@ fn flies(flights: &Flights, number: u64) -> bool {
 fn an_operation_is_planned_started_taken_and_done(rt: HostRuntime) -> Result<(), Fail> {
     let alloc = rt.alloc();
     let mut flights = Flights::new(alloc);
-    fly(alloc, &mut flights, 7)?;
+    fly(alloc, &mut flights, &[7])?;
     assert!(rt; flies(&flights, 7) && !flies(&flights, 8));
     assert!(rt; !flights.finish(7) && !flights.take(7, Taken::Accepted(1)));
     assert!(rt; !flights.start(8) && flights.start(7) && !flights.start(7));
@@ -52,15 +55,14 @@ fn an_operation_is_planned_started_taken_and_done(rt: HostRuntime) -> Result<(),
 fn going_back_brings_each_to_where_it_was(rt: HostRuntime) -> Result<(), Fail> {
     let alloc = rt.alloc();
     let mut flights = Flights::new(alloc);
-    fly(alloc, &mut flights, 1)?;
-    fly(alloc, &mut flights, 2)?;
+    fly(alloc, &mut flights, &[1, 2])?;
     assert!(rt; flights.start(1));
     assert!(rt; flights.take(1, Taken::Folder(Outcome::Changed)));
     flights.settle();
     assert_eq!(rt; flights.len(), 2);
     assert!(rt; flights.finish(1) && flights.start(2));
     assert_eq!(rt; flights.len(), 1);
-    fly(alloc, &mut flights, 3)?;
+    fly(alloc, &mut flights, &[3])?;
     flights.back();
     assert!(rt; flights.taken(1) == Some(Taken::Folder(Outcome::Changed)));
     assert!(rt; flights.start(2) && !flies(&flights, 3));

@@ -1,4 +1,4 @@
-use Rattle.std.proofs.Common.{length, ◌∙◌, ap, subst}
+use Rattle.std.proofs.Common.{length, ◌∙◌, ap}
 use Rattle.std.specs.List.{filter}
 use Rattle.nuc_flights.specs.Flights.{FlightsState}
 use Rattle.nuc_flights.specs.Slots.{is_kept}
