@@ -50,7 +50,7 @@ fit_back laid after (Some x) (Some n) fits new is y k at = fit_put laid after x 
 
 -- ONE CHANGE
 pub away_has : (s : StockState) (number : Option ℕ) (put : Option Node) (x : ℕ) (n : Node) → IsAway s number put → number ≡ Some x → put ≡ Some n → Has s.numbers x
-away_has s number put x n away from at = 
+away_has s number put x n away from at =
     let same : IsAway s number put ≡ IsAway s (Some x) (Some n) = λ i. IsAway s (from i) (at i) in
     (subst (λ X. X) same away).1
 
@@ -88,9 +88,10 @@ more_one : (old new : StockState) (x : ℕ) (n : Node) (number : Option ℕ) (pu
 more_one old new x n None put more apart away = (tt, more.laid)
 more_one old new x n (Some y) None more apart away = absurd away
 more_one old new x n (Some y) (Some k) more apart away =
-    let other : y ≢ x = λ e. apart (ap Some e) in
-    ((ap (λ m. get m y) more.laid ∙ get_put_other old.laid x n y other ∙ away.0, more.slots y away.1),
-    ap (λ m. insert m y k) more.laid ∙ put_apart old.laid x y n k other)
+    let other : y ≢ x = λ e. apart (ap Some e) in (
+      (ap (λ m. get m y) more.laid ∙ get_put_other old.laid x n y other ∙ away.0, more.slots y away.1),
+      ap (λ m. insert m y k) more.laid ∙ put_apart old.laid x y n k other,
+    )
 
 same_one : (old new : StockState) (number : Option ℕ) (put : Option Node) → new.laid ≡ old.laid → HasAll old.numbers new.numbers → IsAway old number put → IsAway new number put
 same_one old new None put laid slots away = tt
@@ -130,9 +131,10 @@ lays_by m (u ∷ steps) old new x n away free more =
 pub stays_away : (m : Nodes) (steps : List Step) (old new : StockState) → new.laid ≡ old.laid → HasAll old.numbers new.numbers → AreAway m steps old → AreAway m steps new
 stays_away m [] old new laid slots away = tt
 stays_away m (u ∷ steps) old new laid slots away =
-    let node = get m (id_of u.undo) in
-    (same_one old new u.number node laid slots away.0,
-    stays_away (undone m u.undo) steps (with_laid old (laid_before m u old.laid)) (with_laid new (laid_before m u new.laid)) (ap (λ l. given_back l u.number node) laid) slots away.1)
+    let node = get m (id_of u.undo) in (
+      same_one old new u.number node laid slots away.0,
+      stays_away (undone m u.undo) steps (with_laid old (laid_before m u old.laid)) (with_laid new (laid_before m u new.laid)) (ap (λ l. given_back l u.number node) laid) slots away.1,
+    )
 
 -- laid by, or no memory for that
 pub lays_by_or_not : {A B : Type 0} (r : Result A B) (m : Nodes) (steps : List Step) (old new : StockState) (x : ℕ) (n : Node) → AreAway m steps old
@@ -161,9 +163,11 @@ puts_laid m now steps u id x n old new away back put at taken named slot =
     let node : get now (id_of u) ≡ Some n = (λ i. get (put i) (back.whose i)) ∙ get_put_same m id n in
     let laid : given_back new.laid (Some x) (get now (id_of u)) ≡ old.laid = (λ i. given_back (taken i) (Some x) (node i)) ∙ put_again old.laid x n at in
     record {
-      away = (subst (IsAway new (Some x)) (sym node) (ap (λ m. get m x) taken ∙ get_cut_same old.laid x, slot),
+      away = (
+        subst (IsAway new (Some x)) (sym node) (ap (λ m. get m x) taken ∙ get_cut_same old.laid x, slot),
         (let e : AreAway (undone now u) steps (record { laid = given_back new.laid (Some x) (get now (id_of u)); numbers = new.numbers }) ≡ AreAway m steps old =
-        λ i. AreAway (back.same i) steps (record { laid = laid i; numbers = named i }) in subst (λ X. X) (sym e) away));
+            λ i. AreAway (back.same i) steps (record { laid = laid i; numbers = named i }) in subst (λ X. X) (sym e) away),
+      );
       then = λ i. laid_first (back.same i) steps (laid i);
     }
 

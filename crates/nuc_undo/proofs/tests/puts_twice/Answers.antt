@@ -30,5 +30,5 @@ pub returns : goal.returns
 returns c =
     record {
       now = c.put_laid-2.ensures.now ∙ laid_put c.back.new.self.laid c.args.number c.back.new.self.now c.args.id.0 c.args.node (lies_again c.before)
-      ∙ ap (λ m. insert m c.args.id.0 c.args.node) (same_tree c.before);
+          ∙ ap (λ m. insert m c.args.id.0 c.args.node) (same_tree c.before);
     }
