@@ -1,3 +1,4 @@
+pub mod Laid
 mod Leads
 mod Search
 mod Slots

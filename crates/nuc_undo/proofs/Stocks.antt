@@ -43,15 +43,15 @@ fit_put laid after x n fits new is y k at = elim (after_put laid x n y k (ap (λ
 pub fit_cut : (laid after : Laid) (x : ℕ) → AllFit laid → after ≡ remove laid x → AllFit after
 fit_cut laid after x fits is y k at = fits y k (after_cut laid x y k (ap (λ m. get m y) (sym is) ∙ at)).1
 
-pub fit_back : (laid after : Laid) (number : Option ℕ) (node : Option Node) → AllFit laid → ((n : Node) → node ≡ Some n → FitsKind n) → after ≡ given_back laid number node → AllFit after
-fit_back laid after None node fits new is y k at = fits y k (ap (λ m. get m y) (sym is) ∙ at)
+pub fit_back : (laid after : Laid) (number : Option ℕ) (put : Option Node) → AllFit laid → ((n : Node) → put ≡ Some n → FitsKind n) → after ≡ given_back laid number put → AllFit after
+fit_back laid after None put fits new is y k at = fits y k (ap (λ m. get m y) (sym is) ∙ at)
 fit_back laid after (Some x) None fits new is y k at = fits y k (ap (λ m. get m y) (sym is) ∙ at)
 fit_back laid after (Some x) (Some n) fits new is y k at = fit_put laid after x n fits (new n refl) is y k at
 
 -- ONE CHANGE
-pub away_has : (s : StockState) (number : Option ℕ) (node : Option Node) (x : ℕ) (n : Node) → IsAway s number node → number ≡ Some x → node ≡ Some n → Has s.numbers x
-away_has s number node x n away from at = 
-    let same : IsAway s number node ≡ IsAway s (Some x) (Some n) = λ i. IsAway s (from i) (at i) in
+pub away_has : (s : StockState) (number : Option ℕ) (put : Option Node) (x : ℕ) (n : Node) → IsAway s number put → number ≡ Some x → put ≡ Some n → Has s.numbers x
+away_has s number put x n away from at =
+    let same : IsAway s number put ≡ IsAway s (Some x) (Some n) = λ i. IsAway s (from i) (at i) in
     (subst (λ X. X) same away).1
 
 -- a stock with a node more, and at least the same slots
@@ -60,40 +60,41 @@ pub record IsMore (old new : StockState) (x : ℕ) (n : Node) : Type 0 where
   pub slots : HasAll old.numbers new.numbers
 
 -- what lies by stays there when other nodes go back
-stays_one : (s : StockState) (number : Option ℕ) (node : Option Node) → IsAway s number node → (x : ℕ) (k : Node) → get s.laid x ≡ Some k → get (given_back s.laid number node) x ≡ Some k
-stays_one s None node away x k at = at
+stays_one : (s : StockState) (number : Option ℕ) (put : Option Node) → IsAway s number put → (x : ℕ) (k : Node) → get s.laid x ≡ Some k → get (given_back s.laid number put) x ≡ Some k
+stays_one s None put away x k at = at
 stays_one s (Some y) None away x k at = absurd away
 stays_one s (Some y) (Some n) away x k at = elim (same_or_not x y) [
   | inl e ↦ absurd (not_both s.laid x k (ap (get s.laid) e ∙ away.0) at)
   | inr apart ↦ get_put_other s.laid y n x apart ∙ at
 ]
 
-back_other : (laid : Laid) (number : Option ℕ) (node : Option Node) (x : ℕ) → number ≢ Some x → get (given_back laid number node) x ≡ get laid x
-back_other laid None node x apart = refl
+back_other : (laid : Laid) (number : Option ℕ) (put : Option Node) (x : ℕ) → number ≢ Some x → get (given_back laid number put) x ≡ get laid x
+back_other laid None put x apart = refl
 back_other laid (Some y) None x apart = refl
 back_other laid (Some y) (Some n) x apart = get_put_other laid y n x (λ e. apart (ap Some (sym e)))
 
 -- x isn't kept for what comes back, if the same lies there in the end
-other_number : (s : StockState) (number : Option ℕ) (node : Option Node) (x : ℕ) (last : Laid) → IsAway s number node
-    → ((k : Node) → get (given_back s.laid number node) x ≡ Some k → get last x ≡ Some k) → get s.laid x ≡ get last x → number ≢ Some x
-other_number s None node x last away stays free e = cc
+other_number : (s : StockState) (number : Option ℕ) (put : Option Node) (x : ℕ) (last : Laid) → IsAway s number put
+    → ((k : Node) → get (given_back s.laid number put) x ≡ Some k → get last x ≡ Some k) → get s.laid x ≡ get last x → number ≢ Some x
+other_number s None put x last away stays free e = cc
 other_number s (Some y) None x last away stays free e = away
 other_number s (Some y) (Some n) x last away stays free e =
     let same : y ≡ x = cc in
     let back : get (insert s.laid y n) x ≡ Some n = subst (λ z. get (insert s.laid y n) z ≡ Some n) same (get_put_same s.laid y n) in
     not_both s.laid x n (subst (λ z. get s.laid z ≡ None) same away.0) (free ∙ stays n back)
 
-more_one : (old new : StockState) (x : ℕ) (n : Node) (number : Option ℕ) (node : Option Node) → IsMore old new x n → number ≢ Some x → IsAway old number node
-    → IsAway new number node × (given_back new.laid number node ≡ insert (given_back old.laid number node) x n)
-more_one old new x n None node more apart away = (tt, more.laid)
+more_one : (old new : StockState) (x : ℕ) (n : Node) (number : Option ℕ) (put : Option Node) → IsMore old new x n → number ≢ Some x → IsAway old number put
+    → IsAway new number put × (given_back new.laid number put ≡ insert (given_back old.laid number put) x n)
+more_one old new x n None put more apart away = (tt, more.laid)
 more_one old new x n (Some y) None more apart away = absurd away
 more_one old new x n (Some y) (Some k) more apart away =
-    let other : y ≢ x = λ e. apart (ap Some e) in
-    ((ap (λ m. get m y) more.laid ∙ get_put_other old.laid x n y other ∙ away.0, more.slots y away.1),
-    ap (λ m. insert m y k) more.laid ∙ put_apart old.laid x y n k other)
+    let other : y ≢ x = λ e. apart (ap Some e) in (
+      (ap (λ m. get m y) more.laid ∙ get_put_other old.laid x n y other ∙ away.0, more.slots y away.1),
+      ap (λ m. insert m y k) more.laid ∙ put_apart old.laid x y n k other,
+    )
 
-same_one : (old new : StockState) (number : Option ℕ) (node : Option Node) → new.laid ≡ old.laid → HasAll old.numbers new.numbers → IsAway old number node → IsAway new number node
-same_one old new None node laid slots away = tt
+same_one : (old new : StockState) (number : Option ℕ) (put : Option Node) → new.laid ≡ old.laid → HasAll old.numbers new.numbers → IsAway old number put → IsAway new number put
+same_one old new None put laid slots away = tt
 same_one old new (Some y) None laid slots away = away
 same_one old new (Some y) (Some k) laid slots away = (ap (λ m. get m y) laid ∙ away.0, slots y away.1)
 
@@ -130,9 +131,10 @@ lays_by m (u ∷ steps) old new x n away free more =
 pub stays_away : (m : Nodes) (steps : List Step) (old new : StockState) → new.laid ≡ old.laid → HasAll old.numbers new.numbers → AreAway m steps old → AreAway m steps new
 stays_away m [] old new laid slots away = tt
 stays_away m (u ∷ steps) old new laid slots away =
-    let node = get m (id_of u.undo) in
-    (same_one old new u.number node laid slots away.0,
-    stays_away (undone m u.undo) steps (with_laid old (laid_before m u old.laid)) (with_laid new (laid_before m u new.laid)) (ap (λ l. given_back l u.number node) laid) slots away.1)
+    let node = get m (id_of u.undo) in (
+      same_one old new u.number node laid slots away.0,
+      stays_away (undone m u.undo) steps (with_laid old (laid_before m u old.laid)) (with_laid new (laid_before m u new.laid)) (ap (λ l. given_back l u.number node) laid) slots away.1,
+    )
 
 -- laid by, or no memory for that
 pub lays_by_or_not : {A B : Type 0} (r : Result A B) (m : Nodes) (steps : List Step) (old new : StockState) (x : ℕ) (n : Node) → AreAway m steps old
@@ -161,9 +163,11 @@ puts_laid m now steps u id x n old new away back put at taken named slot =
     let node : get now (id_of u) ≡ Some n = (λ i. get (put i) (back.whose i)) ∙ get_put_same m id n in
     let laid : given_back new.laid (Some x) (get now (id_of u)) ≡ old.laid = (λ i. given_back (taken i) (Some x) (node i)) ∙ put_again old.laid x n at in
     record {
-      away = (subst (IsAway new (Some x)) (sym node) (ap (λ m. get m x) taken ∙ get_cut_same old.laid x, slot),
+      away = (
+        subst (IsAway new (Some x)) (sym node) (ap (λ m. get m x) taken ∙ get_cut_same old.laid x, slot),
         (let e : AreAway (undone now u) steps (record { laid = given_back new.laid (Some x) (get now (id_of u)); numbers = new.numbers }) ≡ AreAway m steps old =
-        λ i. AreAway (back.same i) steps (record { laid = laid i; numbers = named i }) in subst (λ X. X) (sym e) away));
+            λ i. AreAway (back.same i) steps (record { laid = laid i; numbers = named i }) in subst (λ X. X) (sym e) away),
+      );
       then = λ i. laid_first (back.same i) steps (laid i);
     }
 

@@ -16,8 +16,8 @@ with_node m x (Some n) = insert m x n
 
 -- with the node under the number that it came from, where it came from one
 abbrev pub given_back : Laid → Option ℕ → Option Node → Laid
-given_back laid None node = laid
-given_back laid (Some x) node = with_node laid x node
+given_back laid None put = laid
+given_back laid (Some x) put = with_node laid x put
 
 -- each has what its kind asks for
 abbrev pub AllFit : Laid → Type 0

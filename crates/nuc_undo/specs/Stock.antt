@@ -34,7 +34,7 @@ HasAll before after = (x : ℕ) → Has before x → Has after x
 
 -- what came from a number, if from any, is there, nothing else lies under that, and it has a slot
 abbrev pub IsAway : StockState → Option ℕ → Option Node → Type 0
-IsAway s None node = Unit {0}
+IsAway s None put = Unit {0}
 IsAway s (Some x) None = ⊥
 IsAway s (Some x) (Some n) = (map.get s.laid x ≡ None) × Has s.numbers x
 

@@ -9,7 +9,7 @@ use std::marker::Model;
 use std::mem;
 
 /// Where a node lies by under a number; none where it was taken.
-#[derive(Debug, Drop)]
+#[derive(Drop)]
 pub(crate) struct Slot {
     number: u64,
     node: Option<Node>,
@@ -19,7 +19,7 @@ pub(crate) struct Slot {
 ///
 /// A node that is taken leaves its slot empty, so that it can be given back without memory. A slot that comes last, as
 /// that of a new number mostly does, moves none.
-#[derive(Debug, Drop)]
+#[derive(Drop)]
 pub(crate) struct Stock {
     slots: Vec<Slot>,
     /// Whether any was taken since the last `settle`.

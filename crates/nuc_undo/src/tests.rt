@@ -156,7 +156,12 @@ fn lay_by(tree: &mut UndoTree<Tree>, number: u64, node: Node) -> Result<(), Allo
 }
 
 /// Puts a node that is laid by, takes it back and puts it again. Neither put wants memory.
-fn puts_twice(tree: &mut UndoTree<Tree>, number: u64, id: NodeId, node: Node) -> Result<(), AllocError>
+fn puts_twice(
+    tree: &mut UndoTree<Tree>,
+    number: u64,
+    id: NodeId,
+    node: Node,
+) -> Result<(), AllocError>
     requires settled { tree.old.past ≡ [] }
     requires id { 0 < id.0 }
     requires fits { FitsKind node }

@@ -20,7 +20,7 @@ pub enum Undo {
 }
 
 /// A change that was made.
-#[derive(Debug, Drop)]
+#[derive(Drop)]
 pub struct Step {
     pub undo: Undo,
     /// The number that the node that it put was laid by under; none where it didn't come from the stock.

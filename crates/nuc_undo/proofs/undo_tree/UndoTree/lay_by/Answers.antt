@@ -16,7 +16,7 @@ invariant_of-self g c =
       owed = was.owed;
       room = was.room;
       away = lays_by_or_not c.lay_by.result _ _ c.self.inside.stock c.lay_by.new.self c.args.number c.args.node was.away
-      (ap (λ s. get s.laid c.args.number) is ∙ c.requires.free ∙ sym (ap (λ s. get s.laid_then c.args.number) is)) done.ok done.err done.numbers;
+          (ap (λ s. get s.laid c.args.number) is ∙ c.requires.free ∙ sym (ap (λ s. get s.laid_then c.args.number) is)) done.ok done.err done.numbers;
       fits = fits_or_not c.lay_by.result c.self.inside.stock.laid c.lay_by.new.self.laid c.args.number c.args.node was.fits c.requires.fits done.ok done.err;
     }
 

@@ -22,6 +22,6 @@ invariant_of-self-2 g c =
       owed = omega arith;
       room = omega arith;
       away = rest_away _ _ s _ _ c.self.inside.stock c.give_back.new.self steps c.self.invariant.away done.nodes
-      (c.give_back.ensures.laid ∙ ap (given_back c.self.inside.stock.laid s.number) done.node) c.give_back.ensures.numbers;
+          (c.give_back.ensures.laid ∙ ap (given_back c.self.inside.stock.laid s.number) done.node) c.give_back.ensures.numbers;
       fits = fit_back c.self.inside.stock.laid c.give_back.new.self.laid s.number c.take_back-node.result was.fits (λ n at. was.form.fits _ n (sym done.node ∙ at)) c.give_back.ensures.laid;
     }
