@@ -104,7 +104,7 @@ impl UndoLookup {
         self.lookup.len() == 0
     }
 
-    /// Makes room for `n` more changes, so that they need no memory.
+    /// Makes room for `n` more changes, so that they need no memory. A number too great to be had is want of memory.
     pub fn reserve(&mut self, n: u64) -> Result<(), AllocError>
         ensures ok { OnOk result (n ≤ self.new.spare) }
         ensures succeeds { n ≤ self.old.spare → IsOk result }
