@@ -1,5 +1,6 @@
 -- What entries make of a remote's state, one by one.
-use Rattle.std.proofs.Common.{◌≡◌, ◌≢◌, ◌+◌, ◌<◌, ◌≤◌, ℕ, zero, suc, List, [], ◌∷◌, length, take, drop, Option, None, Some, refl, sym, ◌∙◌, ap, subst, inl, inr, arith}
+use Rattle.std.proofs.Common.{◌≡◌, ◌≢◌, ◌+◌, ◌-◌, ◌<◌, ◌≤◌, ℕ, zero, suc, List, [], ◌∷◌, length, take, drop, slice_get, get_or, Option, None, Some, refl, sym, ◌∙◌, ap, subst, inl, inr, arith}
+use Rattle.std.proofs.lemmas.List.{drop_more, length-drop, length-take}
 use Rattle.std.specs.FinMap.{get, insert, remove}
 use Rattle.nuc_base.specs.Trees.{Nodes, WellFormed}
 use Rattle.nuc_base.specs.declared.node.Node.{Node}
@@ -10,7 +11,7 @@ use Rattle.nuc_journal.specs.Journal.{IsLegalValue}
 use Rattle.nuc_journal.specs.declared.entry.Entry.{Entry}
 use Rattle.nuc_lookup.proofs.Maps as numbers
 use Rattle.nuc_lookup.specs.Rows.{Numbers}
-use Rattle.nuc_replica.specs.Remote.{Agree, Follows, GoesOn, HasRevision, HaveRevisions, IsRemote, RemoteState, revisions_after, with_entries, with_revision}
+use Rattle.nuc_replica.specs.Remote.{Agree, Follows, GoesOn, HasRevision, HaveRevisions, IsRemote, RemoteState, caught_up, revisions_after, with_entries, with_revision}
 
 -- ENTRY BY ENTRY
 drop_none : {X : Type 0} (n : ℕ) → ◌≡◌ {A = List X} (drop n []) []
@@ -18,20 +19,18 @@ drop_none zero = refl
 drop_none (suc n) = refl
 
 drop_one : {X : Type 0} (x : X) (xs ys : List X) → drop (length (x ∷ xs)) ys ≡ drop (length xs) (drop 1 ys)
-drop_one x xs [] = drop_none (length xs)
-drop_one x xs (y ∷ ys) = refl
+drop_one x xs [] = drop_none (length (x ∷ xs)) ∙ sym (drop_none (length xs))
+drop_one x xs (y ∷ ys) = let more : length (x ∷ xs) ≡ suc (length xs) = omega arith in ap (λ n. drop n (y ∷ ys)) more
+
+same_state : (m : Nodes) (revisions : Numbers) (c d : ℕ) (es fs : List Entry) → c ≡ d → es ≡ fs
+    → ◌≡◌ {A = RemoteState} (record { tree = m; revisions = revisions; cursor = c; ahead = es }) (record { tree = m; revisions = revisions; cursor = d; ahead = fs })
+same_state m revisions c d es fs cursor heard = rw (cursor, heard)
 
 pub no_entry : (s : RemoteState) → with_entries s [] ≡ s
-no_entry s = refl
-
-same_state : (s t : RemoteState) → s.tree ≡ t.tree → s.revisions ≡ t.revisions → s.cursor ≡ t.cursor → s.ahead ≡ t.ahead → s ≡ t
-same_state s t a b c d = cc
+no_entry s = same_state s.tree s.revisions (s.cursor + 0) s.cursor s.ahead s.ahead (omega arith) refl
 
 pub entry_by_entry : (s : RemoteState) (e : Entry) (es : List Entry) → with_entries s (e ∷ es) ≡ with_entries (with_entries s (e ∷ [])) es
-entry_by_entry s e es =
-    let cursor : s.cursor + length (e ∷ es) ≡ (s.cursor + 1) + length es = omega arith in
-    let ahead = drop_one e es s.ahead in
-    same_state _ _ refl refl cursor ahead
+entry_by_entry s e es = same_state _ _ (s.cursor + length (e ∷ es)) ((s.cursor + 1) + length es) _ _ (omega arith) (drop_one e es s.ahead)
 
 agree_rest : (e : Entry) (heard es : List Entry) → Agree heard (e ∷ es) → Agree (drop 1 heard) es
 agree_rest e [] es agree = tt
@@ -89,3 +88,46 @@ remote_with s e remote follows =
       revisions = revisions_with s.tree s.revisions s.cursor e.id.0 e.value e.rev next.rev remote.revisions;
       ahead = ahead_with s.cursor s.tree s.ahead e follows.agrees remote.ahead;
     }
+
+-- WHAT IS AHEAD
+agree_none : (es : List Entry) → Agree es []
+agree_none [] = tt
+agree_none (e ∷ es) = tt
+
+first_follows : (cursor : ℕ) (m : Nodes) (es : List Entry) (e : Entry) → ◌≡◌ {A = Option Entry} (Some e) (slice_get es 0) → GoesOn cursor m es → GoesOn cursor m (e ∷ []) × Agree es (e ∷ [])
+first_follows cursor m [] e first on = cc
+first_follows cursor m (f ∷ es) e first on =
+    let same : e ≡ f = cc in
+    (subst (λ (g : Entry). GoesOn cursor m (g ∷ [])) (sym same) (on.0, tt), (sym same, agree_none es))
+
+-- the first entry that is ahead may be applied
+pub ahead_follows : (s : RemoteState) (e : Entry) → ◌≡◌ {A = Option Entry} (Some e) (slice_get s.ahead 0) → IsRemote s → Follows s (e ∷ [])
+ahead_follows s e first remote = let both = first_follows s.cursor s.tree s.ahead e first remote.ahead in record { goes_on = both.0; agrees = both.1 }
+
+pub take_first : (es : List Entry) (e : Entry) → ◌≡◌ {A = Option Entry} (Some e) (slice_get es 0) → take 1 es ≡ e ∷ []
+take_first [] e first = cc
+take_first (f ∷ es) e first = let same : e ≡ f = cc in ap (λ g. g ∷ []) (sym same)
+
+pub drop_item : (es : List Entry) (i : ℕ) (e : Entry) → i < length es → e ≡ get_or es i e → drop i es ≡ e ∷ drop (i + 1) es
+drop_item es i e within is = drop_more es i e within ∙ ap (λ f. f ∷ drop (i + 1) es) (sym is)
+
+-- CATCHING UP
+one_caught_up : (m : Nodes) (revisions : Numbers) (cursor : ℕ) (known : List Entry) (rev : ℕ) → cursor < rev → rev ≤ cursor + length known
+    → caught_up rev (with_entries (record { tree = m; revisions = revisions; cursor = cursor; ahead = known }) (take 1 known))
+      ≡ caught_up rev (record { tree = m; revisions = revisions; cursor = cursor; ahead = known })
+one_caught_up m revisions cursor [] rev lt le = absurd (omega arith)
+one_caught_up m revisions cursor (e ∷ es) rev lt le =
+    let less : rev - cursor ≡ suc (rev - (cursor + 1)) = omega arith in
+    let s : RemoteState = record { tree = m; revisions = revisions; cursor = cursor; ahead = e ∷ es } in
+    sym (ap (λ n. with_entries s (take n (e ∷ es))) less ∙ entry_by_entry s e (take (rev - (cursor + 1)) es))
+
+-- catching up goes on after the first entry
+pub caught_up_on : (s : RemoteState) (rev : ℕ) → s.cursor < rev → rev ≤ s.cursor + length s.ahead → caught_up rev (with_entries s (take 1 s.ahead)) ≡ caught_up rev s
+caught_up_on s rev lt le = one_caught_up s.tree s.revisions s.cursor s.ahead rev lt le
+
+pub within_on : (s : RemoteState) (rev : ℕ) → s.cursor < rev → rev ≤ s.cursor + length s.ahead
+    → rev ≤ (with_entries s (take 1 s.ahead)).cursor + length (with_entries s (take 1 s.ahead)).ahead
+within_on s rev lt le =
+    let size = length-take 1 s.ahead in
+    let rest = length-drop (length (take 1 s.ahead)) s.ahead in
+    omega (arith, size, rest)

@@ -1,2 +1,4 @@
 pub mod Followed
+pub mod Heard
+pub mod Kept
 pub mod Laying

@@ -1,5 +1,5 @@
-ghost use Rattle.std.specs.Prelude.{◌≡◌, ◌++◌, [], length, OnOk, OnErr};
-ghost use Rattle.nuc_replica.specs.Ahead.{ahead_now, no_entries, with_all_applied, with_next_applied, settled_here, led_back};
+ghost use Rattle.std.specs.Prelude.{◌≡◌, ◌<◌, ◌^◌, ◌++◌, [], length, OnOk, OnErr};
+ghost use Rattle.nuc_replica.specs.Ahead.{IsAhead, ahead_now, no_entries, with_all_applied, with_next_applied, settled_here, led_back};
 
 use nuc_journal::Entry;
 use std::alloc::{AllocError, Global};
@@ -47,7 +47,8 @@ impl Ahead {
 
     /// The entries that aren't applied.
     pub fn rest(&self) -> &[Entry]
-        ensures { result.now ≡ ahead_now self.now }
+        ensures rest { result.now ≡ ahead_now self.now }
+        ensures places { IsAhead self.now }
     {
         &self.entries[self.applied..]
     }
@@ -61,7 +62,8 @@ impl Ahead {
 
     /// The place that the next entry to be added will have.
     pub fn end_place(&self) -> usize
-        ensures { result ≡ length self.now.entries }
+        ensures end { result ≡ length self.now.entries }
+        ensures bound { result < 2 ^ 63 }
     {
         self.entries.len()
     }
@@ -111,7 +113,8 @@ impl Ahead {
 
     /// What was ahead at the last `settle` is so again, and no other entry is there.
     pub fn back(&mut self)
-        ensures { self.new ≡ led_back self.old }
+        ensures back { self.new ≡ led_back self.old }
+        ensures places { IsAhead self.old }
     {
         self.entries.truncate(self.settled_len);
         self.applied = self.settled_applied;

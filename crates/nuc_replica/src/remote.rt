@@ -110,7 +110,8 @@ impl<T: TreeLike> Remote<T> {
         self.revisions.reserve(news.len() as u64)?;
         let more = copies(alloc, more)?;
         lay_by(alloc, &mut self.tree, self.ahead.end_place() as u64, &more)?;
-        self.ahead.add(more)
+        self.ahead.add(more)?;
+        Ok(())
     }
 
     /// Applies what was heard of, up to this revision. It takes no memory.

@@ -1,0 +1,40 @@
+use Rattle.std.proofs.Common.{◌≡◌, ◌≤◌, ◌+◌, ◌∷◌, [], ◌++◌, List, ◌∙◌, ap, sym, subst, length, drop, IfSome, arith}
+use Rattle.std.specs.List.{slice_range}
+use Rattle.std.proofs.lemmas.List.{take_rest}
+use Rattle.std.proofs.lemmas.List.Elements.{All-drop}
+use Rattle.nuc_base.specs.Kinds.{FitsKind}
+use Rattle.nuc_journal.specs.declared.entry.Entry.{Entry}
+use Rattle.nuc_replica.specs.Ahead.{AheadState, AreLaidFrom, AreUntaken, IsKept, NodesFit, ahead_now, state_now, state_then}
+use Rattle.nuc_replica.specs.Remote.{Follows, RemoteState, RemoteStates, heard}
+use Rattle.nuc_replica.proofs.Heard.{LaidBeyond, kept_heard, nodes_fit}
+use Rattle.nuc_replica.proofs.remote.Remote.hear.Goals as goal
+
+pub lay_by-requires-clause-places : goal.lay_by-requires-clause-places
+lay_by-requires-clause-places g c = omega (arith, c.deref.type_inv, c.end_place.ensures.bound)
+
+pub lay_by-requires-clause-fit : goal.lay_by-requires-clause-fit
+lay_by-requires-clause-fit g c =
+    let news = c.args.news.now in
+    let range : c.deref.result.now ≡ slice_range news (length c.rest.result.now) (length news) = c.deref.ensures.value ∙ c.in_ok-more.ensures ∙ c.in-Some.ensures.lookup.0.2 in
+    let new = range ∙ take_rest news (length c.rest.result.now) in
+    subst NodesFit (sym new) (All-drop (λ (e : Entry). IfSome e.value FitsKind) (length c.rest.result.now) news (nodes_fit _ _ news c.requires.goes_on))
+
+pub invariant_of-self-2 : goal.invariant_of-self-2
+invariant_of-self-2 g c =
+    let inside = c.self.inside in
+    let a = inside.ahead in
+    let news = c.args.news.now in
+    let more = c.in_ok-more.more.items in
+    let room = c.in_ok-reserve-2.ensures in
+    let laid = c.in_ok-lay_by.ensures in
+    let end = c.end_place.ensures.end in
+    let beyond : LaidBeyond c.reserve.new.self (length a.entries) c.lay_by.new.tree = subst (λ n. LaidBeyond c.reserve.new.self n c.lay_by.new.tree) end
+        (record { keeps = laid.keeps; before = laid.before; before_then = laid.before_then; untaken = laid.untaken }) in
+    let nodes : AreLaidFrom (length a.entries) c.lay_by.new.tree.laid more =
+        subst (AreLaidFrom (length a.entries) c.lay_by.new.tree.laid) c.deref.ensures.value (subst (λ n. AreLaidFrom n c.lay_by.new.tree.laid c.deref.result.now) end laid.ok) in
+    let range : more ≡ slice_range news (length c.rest.result.now) (length news) = c.in_ok-more.ensures ∙ c.in-Some.ensures.lookup.0.2 in
+    let new : more ≡ drop (length (ahead_now a)) news = range ∙ take_rest news (length c.rest.result.now) ∙ ap (λ (es : List Entry). drop (length es) news) c.rest.ensures.rest in
+    subst (λ b. IsKept c.lay_by.new.tree c.reserve-2.new.self inside.cursor inside.settled_cursor b) (sym c.in_ok-add.ensures.ok)
+    (kept_heard inside.tree c.reserve.new.self c.lay_by.new.tree inside.revisions c.reserve-2.new.self inside.cursor inside.settled_cursor a news more c.rest.ensures.places
+      c.in_ok-reserve.ensures.keeps (record { now = room.now; past = room.past; spare = room.spare }) beyond new
+      (subst (λ (s : RemoteStates). Follows s.now news) (sym c.self.view_is) c.requires) c.in_ok-reserve.ensures.ok room.ok nodes c.self.invariant)
