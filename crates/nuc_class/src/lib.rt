@@ -29,7 +29,7 @@ pub use laws::{
 pub use merge::target;
 pub use op::{Effect, Op, Verb};
 pub use planned::operation;
-pub use ready::{due, is_legal};
+pub use ready::{due, is_legal, is_legal_in};
 pub use split::needs_split;
 pub use table::wish;
 pub use wishes::Wish;

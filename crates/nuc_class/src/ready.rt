@@ -48,7 +48,9 @@ pub fn is_legal<T: TreeLike>(r: &T, l: &T, s: &T, op: &Op) -> bool
         && is_legal_in(s, op.id, &op.synced)
 }
 
-fn is_legal_in<T: TreeLike>(tree: &T, id: NodeId, change: &Change) -> bool
+/// Whether a change of one identity is legal in a tree. It takes a fixed number of calls of the tree, besides a walk up
+/// from the new parent.
+pub fn is_legal_in<T: TreeLike>(tree: &T, id: NodeId, change: &Change) -> bool
     requires form { WellFormed (T.nodes tree.now) }
     requires id { 0 < id.0 }
     requires fits { FitsChange change.now }

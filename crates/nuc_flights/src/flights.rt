@@ -92,6 +92,16 @@ impl Flights {
         true
     }
 
+    /// Whether the operation under this number is in flight, started and not taken.
+    pub fn is_started(&self, number: u64) -> bool
+        ensures { MatchBool result (StandsAt number IsStarted self.now.now) (¬ (StandsAt number IsStarted self.now.now)) }
+    {
+        match position_at(&self.slots, number, Level::Started) {
+            Some(_) => true,
+            None => false,
+        }
+    }
+
     /// A started operation was taken, and this came of it. Whether there is one under this number; else what came is
     /// dropped.
     pub fn take(&mut self, number: u64, came: Taken) -> bool

@@ -7,8 +7,8 @@ use Rattle.nuc_base.specs.Trees.{Nodes, WellFormed}
 use Rattle.nuc_base.specs.declared.node.Node.{Node}
 use Rattle.nuc_lookup.specs.Lookup.{numbers_code}
 use Rattle.nuc_observe.specs.Keys.{AreKeys, KeyMap}
-use Rattle.nuc_observe.specs.State.{KeysState}
-use Rattle.nuc_observe.specs.State as keys
+use Rattle.nuc_lookup.specs.State.{UndoLookupState}
+use Rattle.nuc_lookup.specs.State as keys
 use Rattle.nuc_undo.specs.Laid.{Laid, with_node}
 use Rattle.nuc_undo.specs.State.{UndoState}
 use Rattle.nuc_undo.specs.State as undo
@@ -37,7 +37,7 @@ locals_code = code_by (LocalState × (LocalState × (Laid × (Laid × (ℕ × �
     (λ t. record { now = t.0; settled = t.1.0; laid = t.1.1.0; laid_then = t.1.1.1.0; spare = t.1.1.1.1.0; spare_then = t.1.1.1.1.1 })
     (λ _. refl)
 
-abbrev pub locals_of : UndoState → KeysState → LocalStates
+abbrev pub locals_of : UndoState → UndoLookupState → LocalStates
 locals_of tree ks = record {
   now = record { tree = tree.now; keys = ks.now };
   settled = record { tree = undo.settled_of tree; keys = keys.settled_of ks };
@@ -82,7 +82,7 @@ pub record ChangedLocal (s : LocalStates) (cost : ℕ) (t : LocalStates) : Type 
   pub spare_then : s.spare_then ≤ t.spare_then
 
 -- the keys were changed once: they lead back to what they did, with at most one of the room taken
-pub record ChangedKeys (s t : KeysState) : Type 0 where
+pub record ChangedKeys (s t : UndoLookupState) : Type 0 where
   pub settled : keys.settled_of t ≡ keys.settled_of s
   pub past : length t.past ≡ length s.past + 1
   pub spare : s.spare ≤ t.spare + 1

@@ -3,7 +3,7 @@ ghost use Rattle.std.specs.FinMap as map;
 ghost use Rattle.nuc_base.specs.Kinds.{FitsKind};
 ghost use Rattle.nuc_base.specs.Legal.{LegalPut, LegalCut};
 ghost use Rattle.nuc_base.specs.Trees.{IsThere, WellFormed};
-ghost use Rattle.nuc_observe.specs.Keys.{HasAlone, IsUnheld};
+ghost use Rattle.nuc_observe.specs.Keys.{AreKeys, HasAlone, IsUnheld};
 ghost use Rattle.nuc_replica.specs.Local.{AreLocal, ChangedKeys, ChangedLocal, HaveKeys, KeepsLocal, handed_over};
 ghost use Rattle.nuc_undo.specs.Laid.{with_node};
 
@@ -73,6 +73,7 @@ impl<T: TreeLike> Local<T> {
         ensures keeps { KeepsLocal self.old self.new }
         ensures laid { self.new.laid ≡ self.old.laid }
         ensures laid_then { self.new.laid_then ≡ self.old.laid_then }
+        ensures memory { OnErr result (self.old.spare < n) }
     {
         self.tree.reserve(n)?;
         self.keys.reserve(n)
@@ -89,6 +90,29 @@ impl<T: TreeLike> Local<T> {
         ensures keeps { KeepsLocal self.old self.new }
     {
         self.tree.lay_by(number, node)
+    }
+
+    /// Gives an identity that isn't there this node and this key, where the node is known to be legal. It wants memory
+    /// only when `spare` is 0.
+    pub fn add(&mut self, id: NodeId, node: Node, key: Key) -> Result<(), AllocError>
+        requires id { 0 < id.0 }
+        requires absent { map.get self.old.now.tree id.0 ≡ None }
+        requires fits { FitsKind node }
+        requires legal { LegalPut self.old.now.tree id.0 node }
+        requires key { 0 < key.0 }
+        requires free { IsUnheld self.old.now.keys key.0 }
+        ensures ok { OnOk result (self.new.now ≡ record { tree = map.insert self.old.now.tree id.0 node; keys = map.insert self.old.now.keys id.0 key.0 }) }
+        ensures laid { self.new.laid ≡ self.old.laid }
+        ensures changed { ChangedLocal self.old 1 self.new }
+        ensures err { OnErr result (KeepsLocal self.old self.new) }
+        ensures memory { OnErr result (self.old.spare ≡ 0) }
+    {
+        self.reserve(1)?;
+        let Ok(()) = self.tree.put(id, node) else {
+            unreachable!()
+        };
+        put_key(&mut self.keys, id, key);
+        Ok(())
     }
 
     /// Gives an identity that is there the node that is laid by under this number, where that is known to be legal. It
@@ -156,6 +180,48 @@ impl<T: TreeLike> Local<T> {
         cut_key(&mut self.keys, id);
         put_key(&mut self.keys, to, key);
     }
+
+    /// What there is now is what `back` leads to, and what was put from those laid by doesn't go back to them. It takes no
+    /// memory.
+    pub fn settle(&mut self)
+        ensures now { self.new.now ≡ self.old.now }
+        ensures settled { self.new.settled ≡ self.old.now }
+        ensures laid { self.new.laid ≡ self.old.laid }
+        ensures laid_then { self.new.laid_then ≡ self.old.laid }
+        ensures spare { self.old.spare ≤ self.new.spare }
+        ensures spare_then { self.old.spare ≤ self.new.spare_then }
+    {
+        self.tree.settle();
+        self.keys.settle();
+    }
+
+    /// The same, and drops all nodes that are laid by. It takes no memory.
+    pub fn settle_and_forget(&mut self)
+        ensures now { self.new.now ≡ self.old.now }
+        ensures settled { self.new.settled ≡ self.old.now }
+        ensures laid { self.new.laid ≡ map.empty }
+        ensures laid_then { self.new.laid_then ≡ map.empty }
+        ensures spare { self.old.spare ≤ self.new.spare }
+        ensures spare_then { self.old.spare ≤ self.new.spare_then }
+    {
+        self.tree.settle();
+        self.tree.forget_laid();
+        self.keys.settle();
+    }
+
+    /// Takes back all changes since the last settling, or since this was made. What they put from the nodes laid by is
+    /// laid by again. It takes no memory, and what the changes took of `spare` is there again.
+    pub fn back(&mut self)
+        ensures now { self.new.now ≡ self.old.settled }
+        ensures settled { self.new.settled ≡ self.old.settled }
+        ensures laid { self.new.laid ≡ self.old.laid_then }
+        ensures laid_then { self.new.laid_then ≡ self.old.laid_then }
+        ensures spare { self.old.spare_then ≤ self.new.spare }
+        ensures spare_then { self.old.spare_then ≤ self.new.spare_then }
+    {
+        self.tree.back();
+        self.keys.back();
+    }
 }
 
 /// Gives an identity a key that nobody has, where there is room for it.
@@ -165,11 +231,13 @@ fn put_key(keys: &mut Keys, id: NodeId, key: Key)
     requires free { IsUnheld keys.old.now key.0 }
     requires room { 0 < keys.old.spare }
     ensures now { keys.new.now ≡ map.insert keys.old.now id.0 key.0 }
+    ensures sound { AreKeys keys.new.now }
     ensures changed { ChangedKeys keys.old keys.new }
 {
     let Ok(()) = keys.put(id, key) else {
         unreachable!()
     };
+    keys_are_one_to_one(keys);
 }
 
 /// Takes its key from an identity, where there is room to note that.
@@ -177,7 +245,9 @@ fn cut_key(keys: &mut Keys, id: NodeId)
     requires room { 0 < keys.old.spare }
     ensures now { keys.new.now ≡ map.remove keys.old.now id.0 }
     ensures freed { (k : ℕ) → HasAlone keys.old.now id.0 k → IsUnheld keys.new.now k }
+    ensures sound { AreKeys keys.new.now }
     ensures changed { ChangedKeys keys.old keys.new }
 {
     let Ok(()) = keys.cut(id) else { unreachable!() };
+    keys_are_one_to_one(keys);
 }

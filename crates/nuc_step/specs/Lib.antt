@@ -1,0 +1,5 @@
+pub mod Calls
+pub mod Client
+pub mod Launch
+pub mod Sound
+pub mod Steps

@@ -1,3 +1,4 @@
+use crate::Reason;
 use nuc_class::Op;
 use nuc_folder::{Item, UserReply};
 use nuc_server::WebReply;
@@ -50,6 +51,12 @@ pub enum TakeReply {
 pub enum DoneReply {
     /// The trees have the operation's values.
     Applied,
+    /// The outcome came too late: what it looks at isn't as planned any more. No tree was changed.
+    Stale,
+    /// The outside change wasn't made, for this reason. No tree was changed.
+    Dropped(Reason),
+    /// No operation of that number was taken.
+    NoSuchOp,
 }
 
 #[derive(Clone, Copy, Debug, PartialEq, Eq)]
