@@ -1,12 +1,21 @@
 use Rattle.std.specs.Prelude.{◌≡◌, ◌-◌, ◌≤◌, ℕ, All, List, [], ◌∷◌, ◌++◌, min}
 use Rattle.std.specs.FinMap.{len}
 use Rattle.nuc_lookup.specs.Lookup.{LookupState}
-use Rattle.nuc_lookup.specs.State.{UndoLookupState, most_of}
+use Rattle.nuc_lookup.specs.State.{UndoLookupState, first_or, most_of}
 use Rattle.nuc_observe.specs.Inverse.{AreInverse}
 use Rattle.nuc_observe.specs.Keys.{AreKeys, KeyMap}
 
+-- what a caller sees of the keys: those of now, those before each change since the last settling, the oldest first, and
+-- how many changes more need no memory
+abbrev pub KeysState : Type 0
+KeysState = UndoLookupState
+
+-- the keys of the last settling
+abbrev pub settled_of : KeysState → KeyMap
+settled_of s = first_or s.past s.now
+
 -- the last of the past is taken away, and is what there is now
-abbrev pub LeadsToLast : UndoLookupState → UndoLookupState → Type 0
+abbrev pub LeadsToLast : KeysState → KeysState → Type 0
 LeadsToLast old new = (older : List KeyMap) (before : KeyMap) → old.past ≡ older ++ before ∷ [] → (new.past ≡ older) × (new.now ≡ before)
 
 -- how many changes more have room in both look-ups

@@ -1,9 +1,8 @@
 ghost use Rattle.std.specs.Prelude.{◌≡◌, ◌+◌, ◌<◌, ◌≤◌, ◌↔◌, [], ◌∷◌, ◌++◌, None, ℕ, All, length, map, option_map, IfOk, IfSome, IsOk, IsTrue, MatchOption, OnOk, OnErr};
 ghost use Rattle.std.specs.FinMap as map;
-ghost use Rattle.nuc_lookup.specs.State.{settled_of};
 ghost use Rattle.nuc_observe.specs.Inverse.{led_back};
 ghost use Rattle.nuc_observe.specs.Keys.{AreBindings, AreKeys, HasAlone, IsFree, IsUnheld, key_map, row_by_id, row_by_key, with_key};
-ghost use Rattle.nuc_observe.specs.State.{LeadsToLast};
+ghost use Rattle.nuc_observe.specs.State.{LeadsToLast, settled_of};
 
 use crate::Binding;
 use nuc_base::NodeId;
@@ -24,10 +23,10 @@ pub struct Keys {
 }
 
 impl Model for Keys {
-    ghost use Rattle.nuc_lookup.specs.State.{UndoLookupState, undo_lookup_code};
-    ghost use Rattle.nuc_observe.specs.State.{IsKept, spare_of};
+    ghost use Rattle.nuc_lookup.specs.State.{undo_lookup_code};
+    ghost use Rattle.nuc_observe.specs.State.{IsKept, KeysState, spare_of};
 
-    ghost Value = { UndoLookupState };
+    ghost Value = { KeysState };
 
     ghost coded = { undo_lookup_code };
 
