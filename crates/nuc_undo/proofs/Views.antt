@@ -1,5 +1,5 @@
 -- What slots say of the nodes that they stand for.
-use Rattle.std.proofs.Common.{◌≡◌, ℕ, Bool, true, false, cond, List, get_or, set, Option, Some, None, refl, sym, ap, subst, ◌∙◌, inl, inr}
+use Rattle.std.proofs.Common.{◌≡◌, ℕ, Bool, true, false, cond, List, get_or, set, Option, Some, None, sym, ap, subst, ◌∙◌, inl, inr}
 use Rattle.std.specs.List.{insert}
 use Rattle.std.specs.FinMap as map
 use Rattle.nuc_base.proofs.Maps.{same_or_not, same_nodes, get_put_same, get_put_other, get_cut_same, get_cut_other}

@@ -1,4 +1,4 @@
-use Rattle.std.proofs.Common.{◌≡◌, Some, [], ap, sym, subst, ◌∙◌}
+use Rattle.std.proofs.Common.{◌≡◌, Some, ap, sym, subst, ◌∙◌}
 use Rattle.std.specs.FinMap.{get, insert}
 use Rattle.nuc_base.specs.Legal.{LegalPut}
 use Rattle.nuc_base.specs.Trees.{Nodes}

@@ -1,4 +1,4 @@
-use Rattle.std.proofs.Common.{ap, ◌∙◌, Some, sym}
+use Rattle.std.proofs.Common.{ap, ◌∙◌, sym}
 use Rattle.nuc_undo.specs.Laid.{given_back}
 use Rattle.nuc_undo.proofs.Stocks.{away_has}
 use Rattle.nuc_undo.proofs.Views.{lacks_slot, set_full, set_numbers, set_rises}

@@ -1,4 +1,4 @@
-use Rattle.std.proofs.Common.{◌≡◌, ap, ◌∙◌, sym, subst, refl, rules}
+use Rattle.std.proofs.Common.{◌≡◌, ap, ◌∙◌, sym, subst, rules}
 use Rattle.std.proofs.lemmas.Fn.{filter_same}
 use Rattle.std.specs.Prelude.{is_some}
 use Rattle.nuc_undo.specs.Stock.{IsRising, laid_of}

@@ -1,4 +1,4 @@
-use Rattle.std.proofs.Common.{◌≡◌, false, true, ap, set, ◌∙◌, None, Some, sym, subst, IsSome}
+use Rattle.std.proofs.Common.{◌≡◌, false, true, ap, set, ◌∙◌, None, sym, subst, IsSome}
 use Rattle.std.specs.FinMap.{get}
 use Rattle.nuc_undo.specs.Stock.{Has, IsRising, laid_of, numbers_of}
 use Rattle.nuc_undo.proofs.Slots.{slot_of}

@@ -1,4 +1,4 @@
-use Rattle.std.proofs.Common.{◌≡◌, reverse, [], ap, ◌∙◌}
+use Rattle.std.proofs.Common.{ap, ◌∙◌}
 use Rattle.nuc_undo.proofs.Stocks.{first_is, none_away, none_fit, none_past}
 use Rattle.nuc_undo.proofs.undo_tree.UndoTree.forget_laid.Goals as goal
 

@@ -1,7 +1,7 @@
-use Rattle.std.proofs.Common.{◌≡◌, ◌∷◌, Some, reverse, arith, ap, sym, subst, ◌∙◌, min, ◌+◌, ◌-◌, vec_capacity, vec_len}
+use Rattle.std.proofs.Common.{◌∷◌, Some, reverse, arith, ap, sym, subst, ◌∙◌, ◌+◌}
 use Rattle.std.proofs.lemmas.List.{length-reverse}
 use Rattle.nuc_undo.specs.declared.undo.Step.{Step}
-use Rattle.nuc_undo.specs.State.{Before, IsUndoTree, past_of}
+use Rattle.nuc_undo.specs.State.{IsUndoTree, past_of}
 use Rattle.nuc_undo.specs.Undo.{laid_first}
 use Rattle.nuc_undo.proofs.Stocks.{PutsLaid, fit_cut, puts_laid}
 use Rattle.nuc_undo.proofs.Undoing.{few_owed, last_first, past_put, undos_put}

@@ -1,4 +1,4 @@
-use Rattle.std.proofs.Common.{◌≡◌, ◌∷◌, reverse, ap, arith, sym, subst, ◌∙◌}
+use Rattle.std.proofs.Common.{reverse, ap, arith, sym, subst, ◌∙◌}
 use Rattle.nuc_undo.specs.Laid.{given_back}
 use Rattle.nuc_undo.specs.State.{IsUndoTree}
 use Rattle.nuc_undo.specs.Undo.{AreUndoable}
