@@ -1,5 +1,5 @@
 -- How the calls of a client answer.
-use Rattle.std.specs.Prelude.{◌≡◌, ◌<◌, ◌+◌, ℕ, List, length}
+use Rattle.std.specs.Prelude.{◌≡◌, ◌<◌, ◌+◌, ℕ, List, [], length}
 use Rattle.nuc_class.specs.declared.op.Op.{Op}
 use Rattle.nuc_flights.specs.Flights.{Flight, IsStarted, StandsAt}
 use Rattle.nuc_flights.specs.declared.taken.Taken.{Taken}

@@ -89,14 +89,14 @@ IsLaid laid n Keep = Unit {0}
 IsLaid laid n (Put node) = get laid n ≡ Some node
 IsLaid laid n Cut = Unit {0}
 
-pub record AreLaid (local synced : Laid) (f : Flight) : Type 0 where
-  pub local : IsLaid local f.op.number f.op.local
-  pub synced : IsLaid synced f.op.number f.op.synced
+pub record AreLaid (l s : Laid) (f : Flight) : Type 0 where
+  pub local : IsLaid l f.op.number f.op.local
+  pub synced : IsLaid s f.op.number f.op.synced
 
 -- for each operation there is room for its changes: two in Local, one in Synced
-pub record HasRoom (flights : List Flight) (local synced : ℕ) : Type 0 where
-  pub local : 2 * length flights ≤ local
-  pub synced : length flights ≤ synced
+pub record HasRoom (flights : List Flight) (l s : ℕ) : Type 0 where
+  pub local : 2 * length flights ≤ l
+  pub synced : length flights ≤ s
 
 -- the same is laid by now and once all changes are taken back, from this number on
 abbrev pub AreUntaken : Laid → Laid → ℕ → Type 0
@@ -106,18 +106,18 @@ AreUntaken laid laid_then next = (n : ℕ) → next ≤ n → get laid n ≡ get
 abbrev pub CanCount : ℕ → List Flight → Type 0
 CanCount changes flights = changes + length flights < 18446744073709551616
 
-pub record IsKept (remote : RemoteStates) (local : LocalStates) (synced : UndoState) (flights : FlightsState) (counts settled : Counts) : Type 0 where
-  pub now : IsClient (state_now remote local synced flights counts)
-  pub settled : IsClient (state_then remote local synced flights settled)
-  pub later : settled.next_op ≤ counts.next_op
-  pub room : HasRoom flights.now local.spare synced.spare
-  pub room_then : HasRoom flights.settled local.spare_then (synced.spare + length synced.past)
-  pub laid : All (AreLaid local.laid synced.laid) flights.now
-  pub laid_then : All (AreLaid local.laid_then synced.laid_then) flights.settled
-  pub local_untaken : AreUntaken local.laid local.laid_then counts.next_op
-  pub synced_untaken : AreUntaken synced.laid synced.laid_then counts.next_op
-  pub count : CanCount counts.changes flights.now
-  pub count_then : CanCount settled.changes flights.settled
+pub record IsKept (r : RemoteStates) (l : LocalStates) (s : UndoState) (fs : FlightsState) (counts counts_then : Counts) : Type 0 where
+  pub now : IsClient (state_now r l s fs counts)
+  pub settled : IsClient (state_then r l s fs counts_then)
+  pub later : counts_then.next_op ≤ counts.next_op
+  pub room : HasRoom fs.now l.spare s.spare
+  pub room_then : HasRoom fs.settled l.spare_then (s.spare + length s.past)
+  pub laid : All (AreLaid l.laid s.laid) fs.now
+  pub laid_then : All (AreLaid l.laid_then s.laid_then) fs.settled
+  pub local_untaken : AreUntaken l.laid l.laid_then counts.next_op
+  pub synced_untaken : AreUntaken s.laid s.laid_then counts.next_op
+  pub count : CanCount counts.changes fs.now
+  pub count_then : CanCount counts_then.changes fs.settled
 
 -- WHAT A PART OF A DONE LEAVES. A change of Local or of Synced leaves what it leads back to, takes at most so much of the
 -- room, and touches nothing that is laid by but what lies under one number

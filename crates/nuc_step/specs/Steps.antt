@@ -168,16 +168,18 @@ Ends n op t None c e done.Stale d f = ¬ (CanLand (finished n t c) op t) × (d �
 Ends n op t (Some why) c e (done.Dropped w) d f = (w ≡ why) × (d ≡ finished n t c) × (f ≡ e)
 Ends n op t _ c e _ d f = ⊥
 
--- the operation, and what it was taken as
+-- there is none to end
+abbrev pub NothingToEnd : ClientState → Recorded → DoneReply → ClientState → Recorded → Type 0
+NothingToEnd c e done.NoSuchOp d f = (d ≡ c) × (f ≡ e)
+NothingToEnd c e _ d f = ⊥
+
+-- by its stage
 abbrev pub EndsAt : ℕ → Op → Stage → ClientState → Recorded → DoneReply → ClientState → Recorded → Type 0
 EndsAt n op (taken t) c e r d f = Ends n op t (reason_of t) c e r d f
 EndsAt n op planned c e r d f = NothingToEnd c e r d f
 EndsAt n op started c e r d f = NothingToEnd c e r d f
 
-abbrev pub NothingToEnd : ClientState → Recorded → DoneReply → ClientState → Recorded → Type 0
-NothingToEnd c e done.NoSuchOp d f = (d ≡ c) × (f ≡ e)
-NothingToEnd c e _ d f = ⊥
-
+-- by whether one is in flight
 abbrev pub EndsOf : ℕ → Option Flight → ClientState → Recorded → DoneReply → ClientState → Recorded → Type 0
 EndsOf n None c e r d f = NothingToEnd c e r d f
 EndsOf n (Some flight) c e r d f = EndsAt n flight.op flight.stage c e r d f
