@@ -3,6 +3,8 @@
 
 mod ahead;
 mod apply;
+mod following;
 mod remote;
 
+pub use following::{more_entries_keep_remotes, next_entries_follow, remotes_stay_at_a_revision};
 pub use remote::Remote;
