@@ -1,3 +1,7 @@
+pub mod Laid
 mod Leads
-pub mod Steps
-pub mod Undoing
+mod Search
+mod Slots
+mod Stocks
+mod Undoing
+mod Views

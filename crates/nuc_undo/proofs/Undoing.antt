@@ -1,5 +1,6 @@
 -- A change that is taken back, and what is kept for that.
-use Rattle.std.proofs.Common.{◌≡◌, ◌<◌, ◌≤◌, ◌+◌, ℕ, List, [], ◌∷◌, length, None, Some, refl, sym, subst, inl, inr, arith}
+use Rattle.std.proofs.Common.{◌≡◌, ◌<◌, ◌≤◌, ◌+◌, ℕ, List, [], ◌∷◌, length, reverse, ◌++◌, ap, ◌∙◌, None, Some, refl, sym, subst, inl, inr, arith}
+use Rattle.std.proofs.lemmas.List.{reverse-append}
 use Rattle.std.specs.FinMap.{get, insert, remove}
 use Rattle.nuc_base.specs.Legal.{LegalPut}
 use Rattle.nuc_base.specs.Trees.{Nodes, IsThere, WellFormed}
@@ -9,7 +10,8 @@ use Rattle.nuc_base.proofs.Back.{cut_after_put, legal_cut_back, legal_put_after_
 use Rattle.nuc_base.proofs.Forms.{cut_keeps, put_keeps}
 use Rattle.nuc_base.proofs.Maps.{get_put_same, not_both, same_or_not}
 use Rattle.nuc_undo.specs.State.{earliest, past_of}
-use Rattle.nuc_undo.specs.Undo.{AreUndoable, IsUndoable, TakesBack, owed_all, undone}
+use Rattle.nuc_undo.specs.Undo.{AreUndoable, IsUndoable, TakesBack, owed, owed_all, undone}
+use Rattle.nuc_undo.specs.declared.undo.Step.{Step}
 use Rattle.nuc_undo.specs.declared.undo.Undo.{Undo}
 use Rattle.nuc_undo.specs.declared.undo.Undo.TheVariants as undo
 
@@ -45,16 +47,19 @@ undone_form m (undo.Replace id old) form able = put_keeps m id.0 old form able.2
 undone_form m (undo.Restore id old) form able = put_keeps m id.0 old form able.2 able.0 able.1
 
 -- the tree when it was settled is well formed
-pub settled_form : (m : Nodes) (us : List Undo) → WellFormed m → AreUndoable m us → WellFormed (earliest m (past_of m us))
+pub settled_form : (m : Nodes) (steps : List Step) → WellFormed m → AreUndoable m steps → WellFormed (earliest m (past_of m steps))
 settled_form m [] form able = form
-settled_form m (u ∷ us) form able = settled_form (undone m u) us (undone_form m u form able.0) able.1
+settled_form m (s ∷ steps) form able = settled_form (undone m s.undo) steps (undone_form m s.undo form able.0) able.1
 
 -- what is kept is at most two for each
-pub few_owed : (us : List Undo) → owed_all us ≤ length us + length us
+few_owed_one : (u : Undo) → owed u ≤ 2
+few_owed_one (undo.Remove id) = omega arith
+few_owed_one (undo.Replace id old) = omega arith
+few_owed_one (undo.Restore id old) = omega arith
+
+pub few_owed : (steps : List Step) → owed_all steps ≤ length steps + length steps
 few_owed [] = omega arith
-few_owed (undo.Remove id ∷ us) = let ih = few_owed us in omega arith
-few_owed (undo.Replace id old ∷ us) = let ih = few_owed us in omega arith
-few_owed (undo.Restore id old ∷ us) = let ih = few_owed us in omega arith
+few_owed (s ∷ steps) = let ih = few_owed steps in let one = few_owed_one s.undo in omega arith
 
 -- what stands in a tree isn't the root
 pub above_root : (m : Nodes) (x : ℕ) → WellFormed m → IsThere m x → 0 < x
@@ -62,3 +67,13 @@ above_root m x form (n, at) = elim (same_or_not x 0) [
   | inl root ↦ absurd (not_both m x n (subst (λ y. get m y ≡ None) (sym root) form.no_root) at)
   | inr other ↦ omega arith
 ]
+
+-- THE LAST CHANGE
+pub last_first : (before after : List Step) (s : Step) → before ≡ after ++ s ∷ [] → reverse before ≡ s ∷ reverse after
+last_first before after s is = ap reverse is ∙ reverse-append after (s ∷ [])
+
+pub past_put : (m now : Nodes) (x : ℕ) (s : Step) (steps : List Step) → TakesBack m now x s.undo → past_of now (s ∷ steps) ≡ record { nodes = m; id = x } ∷ past_of m steps
+past_put m now x s steps back = λ i. record { nodes = back.same i; id = back.whose i } ∷ past_of (back.same i) steps
+
+pub undos_put : (m now : Nodes) (x : ℕ) (s : Step) (steps : List Step) → TakesBack m now x s.undo → AreUndoable m steps → AreUndoable now (s ∷ steps)
+undos_put m now x s steps back able = (back.able, subst (λ n. AreUndoable n steps) (sym back.same) able)

@@ -1,12 +1,16 @@
 -- How changes of a tree are taken back.
 use Rattle.std.specs.Prelude.{◌≡◌, ◌<◌, ◌+◌, ℕ, List, [], ◌∷◌}
-use Rattle.std.specs.FinMap.{insert, remove}
+use Rattle.std.specs.FinMap.{get, insert, remove}
 use Rattle.nuc_base.specs.Kinds.{FitsKind}
 use Rattle.nuc_base.specs.Legal.{LegalPut, LegalCut}
 use Rattle.nuc_base.specs.Trees.{Nodes, IsThere}
+use Rattle.nuc_undo.specs.Laid.{Laid, given_back}
+use Rattle.nuc_undo.specs.Stock.{StockState, IsAway}
+use Rattle.nuc_undo.specs.declared.undo.Step.{Step}
 use Rattle.nuc_undo.specs.declared.undo.Undo.{Undo}
 use Rattle.nuc_undo.specs.declared.undo.Undo.TheVariants as undo
 
+-- ONE CHANGE
 -- the tree after it
 abbrev pub undone : Nodes → Undo → Nodes
 undone m (undo.Remove id) = remove m id.0
@@ -32,17 +36,33 @@ owed (undo.Remove id) = 0
 owed (undo.Replace id old) = 1
 owed (undo.Restore id old) = 2
 
-abbrev pub owed_all : List Undo → ℕ
-owed_all [] = 0
-owed_all (u ∷ us) = owed u + owed_all us
-
--- each may be done in its turn
-abbrev pub AreUndoable : Nodes → List Undo → Type 0
-AreUndoable m [] = Unit {0}
-AreUndoable m (u ∷ us) = IsUndoable m u × AreUndoable (undone m u) us
-
 -- it takes a change of x back, which led from the tree m to now
 pub record TakesBack (m now : Nodes) (x : ℕ) (u : Undo) : Type 0 where
   pub able : IsUndoable now u
   pub same : undone now u ≡ m
   pub whose : id_of u ≡ x
+
+-- ALL CHANGES, the last first
+abbrev pub owed_all : List Step → ℕ
+owed_all [] = 0
+owed_all (s ∷ steps) = owed s.undo + owed_all steps
+
+-- each may be taken back in its turn
+abbrev pub AreUndoable : Nodes → List Step → Type 0
+AreUndoable m [] = Unit {0}
+AreUndoable m (s ∷ steps) = IsUndoable m s.undo × AreUndoable (undone m s.undo) steps
+
+-- what is laid by once the change is taken back: the node that it put goes back to where it came from
+abbrev pub laid_before : Nodes → Step → Laid → Laid
+laid_before m s laid = given_back laid s.number (get m (id_of s.undo))
+
+-- what is laid by once all are taken back
+abbrev pub laid_first : Nodes → List Step → Laid → Laid
+laid_first m [] laid = laid
+laid_first m (s ∷ steps) laid = laid_first (undone m s.undo) steps (laid_before m s laid)
+
+-- what came from the stock can go back in its turn
+abbrev pub AreAway : Nodes → List Step → StockState → Type 0
+AreAway m [] stock = Unit {0}
+AreAway m (s ∷ steps) stock =
+    IsAway stock s.number (get m (id_of s.undo)) × AreAway (undone m s.undo) steps (record { laid = laid_before m s stock.laid; numbers = stock.numbers })

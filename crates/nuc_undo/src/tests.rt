@@ -1,9 +1,9 @@
-ghost use Rattle.std.specs.Prelude.{◌≡◌, ◌<◌, IfOk, OnOk};
+ghost use Rattle.std.specs.Prelude.{◌≡◌, ◌<◌, [], IfOk, OnOk};
 ghost use Rattle.std.specs.FinMap as map;
 ghost use Rattle.nuc_base.specs.Kinds.{FitsKind};
 ghost use Rattle.nuc_base.specs.Legal.{LegalPut};
 
-use crate::{UndoTree, Undone};
+use crate::UndoTree;
 use nuc_base::{Kind, Name, NameFault, Node, NodeId, Place, TreeLike, Ver};
 use nuc_tree::Tree;
 use std::alloc::{AllocError, Global};
@@ -62,7 +62,9 @@ fn changes(rt: &impl Abort, alloc: Global, tree: &mut UndoTree<Tree>) -> Result<
     Ok(())
 }
 
-fn settled(rt: &impl Abort, alloc: Global) -> Result<UndoTree<Tree>, Fail> {
+fn settled(rt: &impl Abort, alloc: Global) -> Result<UndoTree<Tree>, Fail>
+    ensures { IfOk result (λ tree. tree.past ≡ []) }
+{
     let mut tree = UndoTree::of(alloc, Tree::new(alloc));
     for (id, shape) in SETTLED {
         put(rt, &mut tree, id, node(alloc, shape)?)?;
@@ -91,37 +93,13 @@ fn goes_back_to_what_was_settled(rt: HostRuntime) -> Result<(), Fail> {
     stands(&rt, &tree, &[]);
     tree.back();
     stands(&rt, &tree, &SETTLED);
-    assert!(&rt; tree.undo_last().is_none());
+    tree.back();
+    stands(&rt, &tree, &SETTLED);
     changes(&rt, rt.alloc(), &mut tree)?;
     tree.settle();
     tree.back();
     stands(&rt, &tree, &[]);
     Ok(())
-}
-
-#[test]
-fn takes_back_one_by_one(rt: HostRuntime) -> Result<(), Fail> {
-    let mut tree = settled(&rt, rt.alloc())?;
-    changes(&rt, rt.alloc(), &mut tree)?;
-    for (id, ver) in [
-        (1, None),
-        (3, None),
-        (2, None),
-        (3, Some(0)),
-        (2, Some(6)),
-        (2, Some(6)),
-    ] {
-        assert_eq!(&rt; told(tree.undo_last()), Some((id, ver)));
-    }
-    stands(&rt, &tree, &SETTLED);
-    assert_eq!(&rt; told(tree.undo_last()), None);
-    Ok(())
-}
-
-/// The identity, and the version of the node that was put.
-fn told(undone: Option<Undone>) -> Option<(u64, Option<u64>)> {
-    let Undone { id, node } = undone?;
-    Some((id.0, node.map(|node| node.ver.0)))
 }
 
 /// From `reserve` on no call asks for memory.
@@ -144,35 +122,57 @@ fn wants_no_memory_after_reserve(rt: HostRuntime) -> Result<(), Fail> {
     Ok(())
 }
 
+/// The numbers come in no order, one of them twice.
 #[test]
-fn puts_what_was_handed_over(rt: HostRuntime) -> Result<(), Fail> {
+fn puts_what_is_laid_by(rt: HostRuntime) -> Result<(), Fail> {
     let mut tree = settled(&rt, rt.alloc())?;
-    let id = NodeId(2);
+    for (number, shape) in [
+        (5, (0, b"e".as_slice(), 7)),
+        (3, (0, b"f".as_slice(), 7)),
+        (9, (0, b"g".as_slice(), 0)),
+        (5, (0, b"h".as_slice(), 8)),
+    ] {
+        lay_by(&mut tree, number, node(rt.alloc(), shape)?)?;
+    }
+    let (number, id) = (4, NodeId(2));
     let node = node(rt.alloc(), (1, b"c", 6))?;
     assert_eq!(&rt; tree.tree().check_put(id, &node), Ok(()));
-    puts_twice(&mut tree, id, node)?;
+    puts_twice(&mut tree, number, id, node)?;
+    stands(&rt, &tree, &[SETTLED[0], (2, (1, b"c", 6))]);
+    tree.settle();
+    tree.forget_laid();
+    tree.back();
     stands(&rt, &tree, &[SETTLED[0], (2, (1, b"c", 6))]);
     Ok(())
 }
 
-/// Puts a node, takes it back and puts it again. Where a change is reserved neither put wants memory, and the node
-/// that is handed over is the one that was put.
-fn puts_twice(tree: &mut UndoTree<Tree>, id: NodeId, node: Node) -> Result<(), AllocError>
+fn lay_by(tree: &mut UndoTree<Tree>, number: u64, node: Node) -> Result<(), AllocError>
+    requires settled { tree.old.past ≡ [] }
+    requires fits { FitsKind node }
+    ensures { tree.new.past ≡ [] }
+{
+    let _tree = tree.tree();
+    tree.lay_by(number, node)
+}
+
+/// Puts a node that is laid by, takes it back and puts it again. Neither put wants memory.
+fn puts_twice(
+    tree: &mut UndoTree<Tree>,
+    number: u64,
+    id: NodeId,
+    node: Node,
+) -> Result<(), AllocError>
+    requires settled { tree.old.past ≡ [] }
     requires id { 0 < id.0 }
     requires fits { FitsKind node }
     requires legal { LegalPut tree.old.now id.0 node }
-    ensures { OnOk result (tree.new.now ≡ map.insert tree.old.now id.0 node) }
+    ensures now { OnOk result (tree.new.now ≡ map.insert tree.old.now id.0 node) }
 {
     tree.reserve(1)?;
-    let Ok(()) = tree.put(id, node) else {
-        unreachable!()
-    };
-    let Some(Undone { id, node }) = tree.undo_last() else {
-        unreachable!()
-    };
-    let Some(node) = node else { unreachable!() };
-    let Ok(()) = tree.put(id, node) else {
-        unreachable!()
-    };
+    let _tree = tree.tree();
+    tree.lay_by(number, node)?;
+    tree.put_laid(number, id);
+    tree.back();
+    tree.put_laid(number, id);
     Ok(())
 }

@@ -19,13 +19,12 @@ pub enum Undo {
     Restore(NodeId, Node),
 }
 
-/// A change that was taken back.
-#[derive(Debug, Drop)]
-pub struct Undone {
-    /// Whose node it had changed.
-    pub id: NodeId,
-    /// The node that it had put; none where it was a cut.
-    pub node: Option<Node>,
+/// A change that was made.
+#[derive(Drop)]
+pub struct Step {
+    pub undo: Undo,
+    /// The number that the node that it put was laid by under; none where it didn't come from the stock.
+    pub number: Option<u64>,
 }
 
 impl Undo {
@@ -73,24 +72,21 @@ pub fn cut_undoable<T: TreeLike>(tree: &mut T, id: NodeId) -> Undo
     Undo::Restore(id, cut_legal(tree, id))
 }
 
-/// Takes a change back. It wants no memory where the room that is owed is there.
-pub fn take_back<T: TreeLike>(tree: &mut T, undo: Undo) -> Undone
+/// Takes a change back, and hands over the node that it had put, if it was a put. It wants no memory where the room
+/// that is owed is there.
+pub fn take_back<T: TreeLike>(tree: &mut T, undo: Undo) -> Option<Node>
     requires form { WellFormed (T.nodes tree.old) }
     requires undoable { IsUndoable (T.nodes tree.old) undo }
     requires room { owed undo ≤ T.spare tree.old }
     ensures form { WellFormed (T.nodes tree.new) }
     ensures nodes { T.nodes tree.new ≡ undone (T.nodes tree.old) undo }
-    ensures id { result.id.0 ≡ id_of undo }
-    ensures node { result.node ≡ map.get (T.nodes tree.old) (id_of undo) }
+    ensures node { result ≡ map.get (T.nodes tree.old) (id_of undo) }
     ensures room { T.spare tree.old + 1 ≤ T.spare tree.new + owed undo }
 {
     match undo {
-        Undo::Remove(id) => Undone {
-            id,
-            node: Some(cut_legal(tree, id)),
-        },
+        Undo::Remove(id) => Some(cut_legal(tree, id)),
         Undo::Replace(id, node) | Undo::Restore(id, node) => match put_legal(tree, id, node) {
-            Ok(node) => Undone { id, node },
+            Ok(put) => put,
             Err(_) => unreachable!(),
         },
     }

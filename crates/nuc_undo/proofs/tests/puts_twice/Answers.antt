@@ -1,33 +1,34 @@
-use Rattle.std.proofs.Common.{◌≡◌, ℕ, Some, ◌∙◌, sym}
-use Rattle.std.specs.FinMap as map
+use Rattle.std.proofs.Common.{◌≡◌, Some, [], ap, sym, subst, ◌∙◌}
+use Rattle.std.specs.FinMap.{get, insert}
 use Rattle.nuc_base.specs.Legal.{LegalPut}
 use Rattle.nuc_base.specs.Trees.{Nodes}
-use Rattle.nuc_base.specs.declared.node.Node.{Node}
-use Rattle.nuc_undo.proofs.Steps.{put_back}
+use Rattle.nuc_undo.specs.State.{earliest}
+use Rattle.nuc_undo.proofs.Laid.{laid_legal, laid_put, lies_there}
 use Rattle.nuc_undo.proofs.tests.puts_twice.Goals as goal
 
-legal_again : (m k : Nodes) (x y : ℕ) (n h : Node) → k ≡ m → y ≡ x → ◌≡◌ (Some h) (Some n) → LegalPut m x n → LegalPut k y h
-legal_again m k x y n h tree id node legal = let same : h ≡ n = cc in rw (tree, id, same) legal
+pub put_laid-requires-clause-legal : goal.put_laid-requires-clause-legal
+put_laid-requires-clause-legal c =
+    let done = c.in_ok-lay_by.ensures in
+    laid_legal c.lay_by.new.self.laid c.args.number c.lay_by.new.self.now c.args.id.0 c.args.node (lies_there _ _ c.args.number c.args.node done.laid)
+    (subst (λ (m : Nodes). LegalPut m c.args.id.0 c.args.node) (sym (done.tree.now ∙ c.in_ok-reserve.ensures.keeps.now)) c.requires.legal)
 
-put_again : (m k : Nodes) (x y : ℕ) (n h : Node) → k ≡ m → y ≡ x → ◌≡◌ (Some h) (Some n) → map.insert k y h ≡ map.insert m x n
-put_again m k x y n h tree id node = let same : h ≡ n = cc in cc
+lies_again : (c : goal.After-put_laid-arg-2-1) → get c.back.new.self.laid c.args.number ≡ Some c.args.node
+lies_again c = lies_there _ _ c.args.number c.args.node (c.back.ensures.back.laid ∙ c.put_laid.ensures.changed.laid_then ∙ c.in_ok-lay_by.ensures.laid_then)
 
-pub unreachable-requires-in_default-node : goal.unreachable-requires-in_default-node
-unreachable-requires-in_default-node c =
-    let back = put_back c.reserve.new.self c.put.new.self c.undo_last.new.self c.args.id.0 c.args.node c.in-Some.field-0.id.0 c.in-Some.field-0.node
-    c.in-Ok.ensures.ok c.in-Ok.ensures.changed c.in-Some.ensures.last c.in-Some.ensures.node in
-    c.in_default-node.not-Some c.args.node back.node
+same_tree : (c : goal.After-put_laid-arg-2-1) → c.back.new.self.now ≡ c.args.tree.now.now
+same_tree c =
+    let laid = c.in_ok-lay_by.ensures.tree in
+    let kept = c.in_ok-reserve.ensures.keeps in
+    c.back.ensures.back.now ∙ c.put_laid.ensures.settled ∙ ap (earliest c.lay_by.new.self.now) (laid.past ∙ kept.past ∙ c.requires.settled) ∙ laid.now ∙ kept.now
 
-pub put-requires-2-clause-legal : goal.put-requires-2-clause-legal
-put-requires-2-clause-legal c =
-    let back = put_back c.reserve.new.self c.put.new.self c.undo_last.new.self c.args.id.0 c.args.node c.in-Some.field-0.id.0 c.in-Some.field-0.node
-    c.in-Ok.ensures.ok c.in-Ok.ensures.changed c.in-Some.ensures.last c.in-Some.ensures.node in
-    legal_again c.args.tree.now.now c.undo_last.new.self.now c.args.id.0 c.in-Some.field-0.id.0 c.args.node c.in-Some-node.node
-    (back.keeps.now ∙ c.in_ok-reserve.ensures.keeps.now) back.id (sym c.in-Some-node.is ∙ back.node) c.requires.legal
+pub put_laid-requires-2-clause-legal : goal.put_laid-requires-2-clause-legal
+put_laid-requires-2-clause-legal c =
+    laid_legal c.back.new.self.laid c.args.number c.back.new.self.now c.args.id.0 c.args.node (lies_again c)
+    (subst (λ (m : Nodes). LegalPut m c.args.id.0 c.args.node) (sym (same_tree c)) c.requires.legal)
 
 pub returns : goal.returns
 returns c =
-    let back = put_back c.reserve.new.self c.put.new.self c.undo_last.new.self c.args.id.0 c.args.node c.in-Some.field-0.id.0 c.in-Some.field-0.node
-    c.in-Ok.ensures.ok c.in-Ok.ensures.changed c.in-Some.ensures.last c.in-Some.ensures.node in
-    c.in-Ok-put.ensures.ok ∙ put_again c.args.tree.now.now c.undo_last.new.self.now c.args.id.0 c.in-Some.field-0.id.0 c.args.node c.in-Some-node.node
-    (back.keeps.now ∙ c.in_ok-reserve.ensures.keeps.now) back.id (sym c.in-Some-node.is ∙ back.node)
+    record {
+      now = c.put_laid-2.ensures.now ∙ laid_put c.back.new.self.laid c.args.number c.back.new.self.now c.args.id.0 c.args.node (lies_again c.before)
+          ∙ ap (λ m. insert m c.args.id.0 c.args.node) (same_tree c.before);
+    }

@@ -5,6 +5,6 @@ use Rattle.nuc_undo.proofs.undo_tree.UndoTree.reserve.Goals as goal
 
 pub returns-in_err-room-clause-memory : goal.returns-in_err-room-clause-memory
 returns-in_err-room-clause-memory g c =
-    let few = few_owed (reverse c.self.inside.undos.items) in
-    let size = length-reverse c.self.inside.undos.items in
+    let few = few_owed (reverse c.self.inside.steps.items) in
+    let size = length-reverse c.self.inside.steps.items in
     grind arith

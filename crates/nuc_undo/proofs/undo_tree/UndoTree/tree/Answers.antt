@@ -1,9 +1,15 @@
-use Rattle.std.proofs.Common.{reverse, subst}
+use Rattle.std.proofs.Common.{reverse, subst, ap, sym, ◌∙◌}
 use Rattle.nuc_base.specs.Trees.{WellFormed}
 use Rattle.nuc_undo.specs.State.{UndoState, settled_of}
+use Rattle.nuc_undo.proofs.Stocks.{first_is, none_past}
 use Rattle.nuc_undo.proofs.Undoing.{settled_form}
 use Rattle.nuc_undo.proofs.undo_tree.UndoTree.tree.Goals as goal
 
 pub returns-clause-settled : goal.returns-clause-settled
 returns-clause-settled g c =
-    subst (λ (s : UndoState). WellFormed (settled_of s)) c.self.view_is (settled_form _ (reverse c.self.inside.undos.items) c.self.invariant.form c.self.invariant.undos)
+    subst (λ (s : UndoState). WellFormed (settled_of s)) c.self.view_is (settled_form _ (reverse c.self.inside.steps.items) c.self.invariant.form c.self.invariant.undos)
+
+pub returns-clause-laid : goal.returns-clause-laid
+returns-clause-laid g c none =
+    let is = c.self.view_is in
+    sym (ap (λ s. s.laid_then) is) ∙ first_is _ (reverse c.self.inside.steps.items) c.self.inside.stock.laid (none_past _ _ (ap (λ s. s.past) is ∙ none)) ∙ ap (λ s. s.laid) is
