@@ -1,5 +1,5 @@
 -- What sorting does to rows of different numbers.
-use Rattle.std.proofs.Common.{◌≡◌, ◌≢◌, ◌<◌, ℕ, suc, true, cond, List, [], ◌∷◌, length, map, get_or, AllPairs, Option, None, Some, refl, sym, ap, subst, ◌∙◌, inl, inr, arith}
+use Rattle.std.proofs.Common.{◌≡◌, ◌≢◌, ◌<◌, ℕ, zero, suc, true, cond, List, [], ◌∷◌, length, map, get_or, AllPairs, Option, None, Some, refl, sym, ap, subst, ◌∙◌, inl, inr, arith}
 use Rattle.std.proofs.lemmas.List.{get_or-map}
 use Rattle.std.proofs.lemmas.List.Sorted.{Contains-permutation, IsPermutation-map, IsPermutation-sym}
 use Rattle.std.proofs.lemmas.Map.Keys.{IsDistinct-IsPermutation}
@@ -16,6 +16,7 @@ use Rattle.std.specs.Map.{keys_of, lookup}
 use Rattle.std.specs.Ordering.{nat_cmp, eq_by_cmp}
 use Rattle.nuc_lookup.specs.Rows.{AreApart, IsBelow, IsRising, pairs}
 use Rattle.nuc_lookup.specs.declared.row.Row.{Row}
+use Rattle.nuc_lookup.proofs.Search.{below_at}
 
 abbrev numbers : List Row → List ℕ
 numbers rows = map (λ r. r.from) rows
@@ -53,6 +54,13 @@ rising (r ∷ rows) up apart = (
       omega (arith, le, other)),
   rising rows (λ i j d le lt. up (suc i) (suc j) d (omega arith) (omega arith)) (λ i j d lt within. apart (suc i) (suc j) d (omega arith) (omega arith)),
 )
+
+-- for a caller whose rows rise already
+pub rising_apart : (rows : List Row) → IsRising rows → AreApart rows
+rising_apart [] rises i j d lt within same = omega arith
+rising_apart (r ∷ rows) rises i zero d lt within same = omega arith
+rising_apart (r ∷ rows) rises zero (suc j) d lt within same = let above = below_at r.from rows j d rises.0 (omega arith) in omega (arith, above, same)
+rising_apart (r ∷ rows) rises (suc i) (suc j) d lt within same = rising_apart rows rises.1 i j d (omega arith) (omega arith) same
 
 -- ANOTHER ORDER says the same
 same_test : (x y : ℕ) → Decides (eq_by_cmp nat_cmp x y) (x ≡ y)

@@ -1,10 +1,11 @@
 use Rattle.std.specs.Prelude.{◌≡◌, ◌+◌, ◌-◌, ◌≤◌, ℕ, List, [], ◌∷◌, ◌++◌, length, min, refl}
 use Rattle.std.specs.Coded.{Coded, code_by, coded×, coded_ℕ, coded_list}
-use Rattle.std.specs.FinMap.{len}
+use Rattle.std.specs.FinMap.{get, len}
 use Rattle.nuc_lookup.specs.Lookup.{LookupState, numbers_code}
 use Rattle.nuc_lookup.specs.Rows.{Numbers}
-use Rattle.nuc_lookup.specs.Undo.{first_of}
+use Rattle.nuc_lookup.specs.Undo.{first_of, led}
 use Rattle.nuc_lookup.specs.declared.undo.Undo.{Undo}
+use Rattle.nuc_lookup.specs.declared.undone.Undone.{Undone}
 
 -- what a caller sees of a look-up with undo: where numbers lead now, where they led before each change since the last
 -- settling, the oldest first, and how many changes more need no memory
@@ -26,9 +27,15 @@ first_or (first ∷ past) m = first
 abbrev pub settled_of : UndoLookupState → Numbers
 settled_of s = first_or s.past s.now
 
--- the last of the past is taken away, and is what there is now
-abbrev pub LeadsToLast : UndoLookupState → UndoLookupState → Type 0
-LeadsToLast old new = (older : List Numbers) (before : Numbers) → old.past ≡ older ++ before ∷ [] → (new.past ≡ older) × (new.now ≡ before)
+-- how many rows there can be at most: those of the last settling, and one for each change since
+abbrev pub most_of : UndoLookupState → ℕ
+most_of s = len (settled_of s) + length s.past
+
+-- the last change was taken back: the last of the past is what there is now, which differs at one number at most
+pub record TakenBack (old : UndoLookupState) (u : Undone) (new : UndoLookupState) : Type 0 where
+  pub past : old.past ≡ new.past ++ new.now ∷ []
+  pub now : new.now ≡ led old.now u.from u.before
+  pub after : u.after ≡ get old.now u.from
 
 -- how many changes more have room: each may add a row, and is noted
 abbrev pub spare_of : ℕ → ℕ → ℕ → ℕ → ℕ

@@ -7,8 +7,10 @@ use crate::Row;
 use std::alloc::{AllocError, Global};
 use std::marker::Model;
 
-/// What numbers lead to: rows in rising order of the number, found by halving. A row that comes last, as that of a new
-/// number mostly does, moves none.
+/// What numbers lead to: rows in rising order of the number, found by halving.
+///
+/// Looking up takes time in the logarithm of the number of rows. A row that is added or removed moves those behind it; one
+/// that comes last, as that of a new number mostly does, moves none.
 #[derive(Debug, Drop)]
 pub struct Lookup {
     rows: Vec<Row>,
@@ -38,7 +40,7 @@ impl Lookup {
         }
     }
 
-    /// What these rows say, which may come in any order.
+    /// What these rows say, which may come in any order. It takes no memory.
     pub fn of(mut rows: Vec<Row>) -> Lookup
         requires { AreApart rows.items }
         ensures numbers { result.numbers ≡ numbers_in rows.items }
@@ -48,6 +50,7 @@ impl Lookup {
         Lookup { rows }
     }
 
+    /// Where a number leads.
     pub fn get(&self, from: u64) -> Option<u64>
         ensures { result ≡ map.get self.now.numbers from }
     {
@@ -57,19 +60,21 @@ impl Lookup {
         }
     }
 
+    /// How many numbers lead somewhere.
     pub fn len(&self) -> usize
         ensures { result ≡ map.len self.now.numbers }
     {
         self.rows.len()
     }
 
+    /// How many rows there can be without more memory.
     pub fn room(&self) -> usize
         ensures { result ≡ self.now.room }
     {
         self.rows.capacity()
     }
 
-    /// Makes room for that many more rows than there was room for.
+    /// Makes room for that many more rows than there was room for. A number too great to be had is want of memory.
     pub fn grow(&mut self, by: usize) -> Result<(), AllocError>
         ensures numbers { self.new.numbers ≡ self.old.numbers }
         ensures room { self.old.room ≤ self.new.room }
@@ -101,7 +106,7 @@ impl Lookup {
         }
     }
 
-    /// Lets a number lead nowhere, and says where it led before.
+    /// Lets a number lead nowhere, and says where it led before. It takes no memory.
     pub fn cut(&mut self, from: u64) -> Option<u64>
         ensures numbers { self.new.numbers ≡ map.remove self.old.numbers from }
         ensures before { result ≡ map.get self.old.numbers from }
@@ -126,7 +131,7 @@ impl Lookup {
         }
     }
 
-    /// Lets a number lead nowhere, where there is one.
+    /// Lets a number lead nowhere, where there is one. It takes no memory.
     pub fn cut_any(&mut self, from: Option<u64>)
         ensures numbers { self.new.numbers ≡ without self.old.numbers from }
         ensures room { self.new.room ≡ self.old.room }

@@ -1,10 +1,10 @@
-ghost use Rattle.std.specs.Prelude.{◌≡◌, ◌+◌, ◌≤◌, ◌↔◌, [], ◌∷◌, ◌++◌, None, length, IsOk, IsTrue, OnOk, OnErr};
+ghost use Rattle.std.specs.Prelude.{◌≡◌, ◌+◌, ◌≤◌, ◌↔◌, [], ◌∷◌, ◌++◌, None, length, IfNone, IfSome, IsOk, IsTrue, OnOk, OnErr};
 ghost use Rattle.std.specs.FinMap as map;
 ghost use Rattle.nuc_lookup.specs.Rows.{AreApart, numbers_in};
 ghost use Rattle.nuc_lookup.specs.Undo.{led};
 
 use crate::undo::Undo;
-use crate::{Lookup, Row};
+use crate::{Lookup, Row, Undone};
 use std::alloc::{AllocError, Global};
 use std::marker::Model;
 
@@ -39,7 +39,7 @@ impl Model for UndoLookup {
     ghost invariant = { λ l. IsKept l.lookup l.undos.items l.settled_len };
 }
 
-ghost use Rattle.nuc_lookup.specs.State.{LeadsToLast, settled_of};
+ghost use Rattle.nuc_lookup.specs.State.{TakenBack, most_of, settled_of};
 
 impl UndoLookup {
     /// No rows, in no memory.
@@ -83,6 +83,20 @@ impl UndoLookup {
         self.lookup.len() as u64
     }
 
+    /// How many numbers led somewhere at the last `settle`.
+    pub fn settled_len(&self) -> u64
+        ensures { result ≡ map.len (settled_of self.now) }
+    {
+        self.settled_len as u64
+    }
+
+    /// How many changes can be taken back.
+    pub fn changes(&self) -> u64
+        ensures { result ≡ length self.now.past }
+    {
+        self.undos.len() as u64
+    }
+
     /// Whether no number leads anywhere.
     pub fn is_empty(&self) -> bool
         ensures { IsTrue result ↔ (map.len self.now.now ≡ 0) }
@@ -90,7 +104,7 @@ impl UndoLookup {
         self.lookup.len() == 0
     }
 
-    /// Makes room for `n` more changes, so that they need no memory.
+    /// Makes room for `n` more changes, so that they need no memory. A number too great to be had is want of memory.
     pub fn reserve(&mut self, n: u64) -> Result<(), AllocError>
         ensures ok { OnOk result (n ≤ self.new.spare) }
         ensures succeeds { n ≤ self.old.spare → IsOk result }
@@ -114,7 +128,7 @@ impl UndoLookup {
         ensures memory { OnErr result (self.old.spare ≡ 0) }
         ensures spare { self.old.spare ≤ self.new.spare + 1 }
     {
-        self.change(from, Some(to))
+        self.set(from, Some(to))
     }
 
     /// Lets a number lead nowhere from now on. Where it leads nowhere nothing changes, but that is noted as a change too.
@@ -129,10 +143,11 @@ impl UndoLookup {
         ensures memory { OnErr result (self.old.spare ≡ 0) }
         ensures spare { self.old.spare ≤ self.new.spare + 1 }
     {
-        self.change(from, None)
+        self.set(from, None)
     }
 
-    fn change(&mut self, from: u64, to: Option<u64>) -> Result<(), AllocError>
+    /// Lets a number lead to another from now on, or nowhere. It wants memory only when `spare` is 0.
+    pub fn set(&mut self, from: u64, to: Option<u64>) -> Result<(), AllocError>
         ensures now { OnOk result (self.new.now ≡ led self.old.now from to) }
         ensures past { OnOk result (self.new.past ≡ self.old.past ++ self.old.now ∷ []) }
         ensures settled { settled_of self.new ≡ settled_of self.old }
@@ -147,16 +162,22 @@ impl UndoLookup {
         Ok(())
     }
 
-    /// Takes the last change back, if there was one since `settle`. It takes no memory.
-    pub fn undo_last(&mut self)
-        ensures last { LeadsToLast self.old self.new }
-        ensures none { self.old.past ≡ [] → self.new ≡ self.old }
+    /// Takes the last change since `settle` back, and says what it was; none where there is no such change. It takes no
+    /// memory.
+    pub fn undo_last(&mut self) -> Option<Undone>
+        ensures last { IfSome result (λ u. TakenBack self.old u self.new) }
+        ensures none { IfNone result ((self.old.past ≡ []) × (self.new ≡ self.old)) }
         ensures settled { settled_of self.new ≡ settled_of self.old }
         ensures spare { self.old.spare + length self.old.past ≤ self.new.spare + length self.new.past }
+        ensures most { map.len self.new.now ≤ most_of self.new }
     {
-        if let Some(Undo { from, before }) = self.undos.pop() {
-            self.lookup.set(from, before);
-        }
+        let Undo { from, before } = self.undos.pop()?;
+        let after = self.lookup.set(from, before);
+        Some(Undone {
+            from,
+            after,
+            before,
+        })
     }
 
     /// Keeps the changes for good: what there is now is what `back` leads to. It takes no memory.
@@ -176,8 +197,6 @@ impl UndoLookup {
         ensures past { self.new.past ≡ [] }
         ensures spare { self.old.spare + length self.old.past ≤ self.new.spare }
     {
-        for _ in 0..self.undos.len() {
-            self.undo_last();
-        }
+        while self.undo_last().is_some() {}
     }
 }

@@ -6,7 +6,7 @@ use Rattle.std.specs.FinMap.{get, insert, from_entries, get-empty}
 use Rattle.std.specs.Ordering.{nat_cmp}
 use Rattle.nuc_lookup.specs.Rows.{AreApart as RowsApart, numbers_in, pairs, without}
 use Rattle.nuc_observe.specs.Keys.{AreApart, AreBindings, AreKeys, key_map, row_by_id, row_by_key}
-use Rattle.nuc_observe.specs.Pairing.{AreInverse}
+use Rattle.nuc_observe.specs.Inverse.{AreInverse}
 use Rattle.nuc_observe.specs.declared.binding.Binding.{Binding}
 use Rattle.nuc_lookup.specs.declared.row.Row.{Row}
 use Rattle.nuc_observe.proofs.Inverse.{nobody, put_inverse}

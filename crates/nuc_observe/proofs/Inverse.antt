@@ -4,7 +4,7 @@ use Rattle.std.specs.FinMap.{get, insert, remove, len, empty, get-empty}
 use Rattle.std.specs.Ordering.{nat_cmp}
 use Rattle.nuc_lookup.specs.Rows.{Numbers, without}
 use Rattle.nuc_observe.specs.Keys.{IsFree}
-use Rattle.nuc_observe.specs.Pairing.{AreInverse}
+use Rattle.nuc_observe.specs.Inverse.{AreInverse}
 use Rattle.nuc_lookup.proofs.Maps.{same_or_not, get_put_same, get_put_other, get_cut_same, get_cut_other, one_number, not_both, len_put_new, len_put_over, len_cut, len_cut_none}
 
 pub nobody : (ids keys : Numbers) → ids ≡ empty → keys ≡ empty → AreInverse ids keys

@@ -1,20 +1,19 @@
 -- Which key each identity has.
-use Rattle.std.specs.Prelude.{◌≡◌, ◌≢◌, ◌<◌, ℕ, All, AllPairs, List, map, Option, None, Some}
+use Rattle.std.specs.Prelude.{◌≡◌, ◌≢◌, ◌<◌, ℕ, All, AllPairs, List, map, Option, None, Some, option_map}
 use Rattle.std.specs.FinMap as map
-use Rattle.std.specs.FinMap.{FinMap}
-use Rattle.std.specs.Ordering.{nat_cmp}
 use Rattle.nuc_folder.specs.declared.item.Key.{Key}
 use Rattle.nuc_observe.specs.declared.binding.Binding.{Binding}
+use Rattle.nuc_lookup.specs.Rows.{Numbers}
+use Rattle.nuc_lookup.specs.Undo.{led}
 use Rattle.nuc_lookup.specs.declared.row.Row.{Row}
 
 -- from an identity to its key
 abbrev pub KeyMap : Type 0
-KeyMap = FinMap nat_cmp ℕ
+KeyMap = Numbers
 
 -- x has this key from now on, or none
 abbrev pub with_key : KeyMap → ℕ → Option Key → KeyMap
-with_key m x None = map.remove m x
-with_key m x (Some k) = map.insert m x k.0
+with_key m x key = led m x (option_map (λ k. k.0) key)
 
 -- nobody has the key k
 abbrev pub IsUnheld : KeyMap → ℕ → Type 0

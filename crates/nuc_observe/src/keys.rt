@@ -1,12 +1,14 @@
-ghost use Rattle.std.specs.Prelude.{◌≡◌, ◌+◌, ◌<◌, ◌≤◌, ◌↔◌, [], ◌∷◌, ◌++◌, None, ℕ, All, length, option_map, IfOk, IfSome, IsOk, IsTrue, MatchOption, OnOk, OnErr};
+ghost use Rattle.std.specs.Prelude.{◌≡◌, ◌+◌, ◌<◌, ◌≤◌, ◌↔◌, [], ◌∷◌, ◌++◌, None, ℕ, All, length, map, option_map, IfOk, IfSome, IsOk, IsTrue, MatchOption, OnOk, OnErr};
 ghost use Rattle.std.specs.FinMap as map;
-ghost use Rattle.nuc_observe.specs.Keys.{AreBindings, AreKeys, HasAlone, IsFree, IsUnheld, key_map, with_key};
+ghost use Rattle.nuc_lookup.specs.State.{settled_of};
+ghost use Rattle.nuc_observe.specs.Inverse.{led_back};
+ghost use Rattle.nuc_observe.specs.Keys.{AreBindings, AreKeys, HasAlone, IsFree, IsUnheld, key_map, row_by_id, row_by_key, with_key};
+ghost use Rattle.nuc_observe.specs.State.{LeadsToLast};
 
 use crate::Binding;
-use crate::pairing::Pairing;
-use crate::undo::Undo;
 use nuc_base::NodeId;
 use nuc_folder::Key;
+use nuc_lookup::{Lookup, Row, UndoLookup};
 use std::alloc::{AllocError, Global};
 use std::marker::Model;
 
@@ -16,31 +18,23 @@ use std::marker::Model;
 /// may be wanted. Looking up takes time in the logarithm of the number of keys, a change in their number.
 #[derive(Debug, Drop)]
 pub struct Keys {
-    pairing: Pairing,
-    undos: Vec<Undo>,
-    /// How many identities had a key at the last `settle`.
-    settled_len: usize,
+    by_id: UndoLookup,
+    /// Leads back where `by_id` leads now.
+    by_key: Lookup,
 }
 
 impl Model for Keys {
-    ghost use Rattle.std.specs.Prelude.{length, vec_capacity};
-    ghost use Rattle.nuc_observe.specs.State.{IsKept, KeysState, keys_code, spare_of};
-    ghost use Rattle.nuc_observe.specs.Undo.{past_of};
+    ghost use Rattle.nuc_lookup.specs.State.{UndoLookupState, undo_lookup_code};
+    ghost use Rattle.nuc_observe.specs.State.{IsKept, spare_of};
 
-    ghost Value = { KeysState };
+    ghost Value = { UndoLookupState };
 
-    ghost coded = { keys_code };
+    ghost coded = { undo_lookup_code };
 
-    ghost view = { λ k. record {
-      now = k.pairing.numbers;
-      past = past_of k.pairing.numbers k.undos.items;
-      spare = spare_of k.pairing.room (vec_capacity k.undos) k.settled_len (length k.undos.items);
-    } };
+    ghost view = { λ k. record { now = k.by_id.now; past = k.by_id.past; spare = spare_of k.by_id k.by_key } };
 
-    ghost invariant = { λ k. IsKept k.pairing k.undos.items k.settled_len };
+    ghost invariant = { λ k. IsKept k.by_id k.by_key };
 }
-
-ghost use Rattle.nuc_observe.specs.State.{LeadsToLast, settled_of};
 
 impl Keys {
     /// No keys, in no memory.
@@ -49,9 +43,8 @@ impl Keys {
         ensures past { result.past ≡ [] }
     {
         Keys {
-            pairing: Pairing::new(alloc),
-            undos: Vec::new(alloc),
-            settled_len: 0,
+            by_id: UndoLookup::new(alloc),
+            by_key: Lookup::new(alloc),
         }
     }
 
@@ -61,39 +54,36 @@ impl Keys {
         ensures now { IfOk result (λ keys. keys.now ≡ key_map bindings.now) }
         ensures past { IfOk result (λ keys. keys.past ≡ []) }
     {
-        let pairing = Pairing::of(alloc, bindings)?;
-        let settled_len = pairing.len();
         Ok(Keys {
-            pairing,
-            undos: Vec::new(alloc),
-            settled_len,
+            by_id: UndoLookup::of(alloc, rows_by_id(alloc, bindings)?),
+            by_key: Lookup::of(rows_by_key(alloc, bindings)?),
         })
     }
 
     pub fn key_of(&self, id: NodeId) -> Option<Key>
         ensures { option_map (λ k. k.0) result ≡ map.get self.now.now id.0 }
     {
-        self.pairing.key_of(id)
+        self.by_id.get(id.0).map(Key)
     }
 
     pub fn id_of(&self, key: Key) -> Option<NodeId>
         ensures { MatchOption result (IsUnheld self.now.now key.0) (λ x. HasAlone self.now.now x.0 key.0) }
     {
-        self.pairing.id_of(key)
+        self.by_key.get(key.0).map(NodeId)
     }
 
     /// How many identities have a key.
     pub fn len(&self) -> u64
         ensures { result ≡ map.len self.now.now }
     {
-        self.pairing.len() as u64
+        self.by_id.len()
     }
 
     /// Whether no identity has a key.
     pub fn is_empty(&self) -> bool
         ensures { IsTrue result ↔ (map.len self.now.now ≡ 0) }
     {
-        self.pairing.len() == 0
+        self.by_id.is_empty()
     }
 
     /// Makes room for `n` more changes, so that they need no memory.
@@ -104,10 +94,9 @@ impl Keys {
         ensures past { self.new.past ≡ self.old.past }
         ensures spare { self.old.spare ≤ self.new.spare }
     {
-        let n = n as usize;
-        let unused = self.pairing.room() - self.settled_len - self.undos.len();
-        self.pairing.grow(n.saturating_sub(unused))?;
-        self.undos.reserve(n)
+        let unused = self.by_key.room() as u64 - self.by_id.settled_len() - self.by_id.changes();
+        self.by_id.reserve(n)?;
+        self.by_key.grow(n.saturating_sub(unused) as usize)
     }
 
     /// Gives an identity this key in place of any that it had. It wants memory only when `spare` is 0.
@@ -155,8 +144,10 @@ impl Keys {
         ensures spare { self.old.spare ≤ self.new.spare + 1 }
     {
         self.reserve(1)?;
-        let before = self.pairing.set(id, key);
-        self.undos.push_reserved(Undo { id, before });
+        let old = self.by_id.get(id.0);
+        let new = key.map(|key| key.0);
+        self.by_id.set(id.0, new)?;
+        lead_back(&mut self.by_key, id.0, old, new);
         Ok(())
     }
 
@@ -167,8 +158,8 @@ impl Keys {
         ensures settled { settled_of self.new ≡ settled_of self.old }
         ensures spare { self.old.spare + length self.old.past ≤ self.new.spare + length self.new.past }
     {
-        if let Some(Undo { id, before }) = self.undos.pop() {
-            self.pairing.set(id, before);
+        if let Some(undone) = self.by_id.undo_last() {
+            lead_back(&mut self.by_key, undone.from, undone.after, undone.before);
         }
     }
 
@@ -178,8 +169,7 @@ impl Keys {
         ensures past { self.new.past ≡ [] }
         ensures spare { self.old.spare ≤ self.new.spare }
     {
-        self.undos.clear();
-        self.settled_len = self.pairing.len();
+        self.by_id.settle();
     }
 
     /// Takes back all changes since `settle` was last called, or since the keys were made. It takes no memory, and as many
@@ -189,7 +179,7 @@ impl Keys {
         ensures past { self.new.past ≡ [] }
         ensures spare { self.old.spare + length self.old.past ≤ self.new.spare }
     {
-        for _ in 0..self.undos.len() {
+        for _ in 0..self.by_id.changes() {
             self.undo_last();
         }
     }
@@ -201,5 +191,41 @@ pub fn keys_are_one_to_one(keys: &Keys)
     ensures now { AreKeys keys.now.now }
     ensures past { All AreKeys keys.now.past }
 {
-    let _kept = &keys.pairing;
+    let _kept = &keys.by_id;
+}
+
+/// Lets the new key of an identity lead back to it, if it has one, and no more the old one. It takes no memory.
+fn lead_back(by_key: &mut Lookup, id: u64, old: Option<u64>, new: Option<u64>)
+    requires { map.len (led_back by_key.old.numbers id old new) ≤ by_key.old.room }
+    ensures numbers { by_key.new.numbers ≡ led_back by_key.old.numbers id old new }
+    ensures room { by_key.new.room ≡ by_key.old.room }
+{
+    by_key.cut_any(old);
+    if let Some(key) = new {
+        by_key.put(key, id);
+    }
+}
+
+fn rows_by_id(alloc: Global, bindings: &[Binding]) -> Result<Vec<Row>, AllocError>
+    ensures { IfOk result (λ rows. rows.items ≡ map row_by_id bindings.now) }
+{
+    bindings
+        .iter()
+        .map(|binding| Row {
+            from: binding.id.0,
+            to: binding.key.0,
+        })
+        .collect(alloc)
+}
+
+fn rows_by_key(alloc: Global, bindings: &[Binding]) -> Result<Vec<Row>, AllocError>
+    ensures { IfOk result (λ rows. rows.items ≡ map row_by_key bindings.now) }
+{
+    bindings
+        .iter()
+        .map(|binding| Row {
+            from: binding.key.0,
+            to: binding.id.0,
+        })
+        .collect(alloc)
 }

@@ -3,10 +3,8 @@
 
 mod binding;
 mod keys;
-mod pairing;
 #[cfg(test)]
 mod tests;
-mod undo;
 
 pub use binding::Binding;
 pub use keys::{Keys, keys_are_one_to_one};

@@ -1,18 +1,6 @@
-use Rattle.std.proofs.Common.{◌∙◌, refl, ap, arith, length, length-append, ◌∷◌, []}
-use Rattle.nuc_observe.proofs.Undoing.{ended, length_past}
+use Rattle.std.proofs.Common.{◌∙◌, ap, arith, length, length-append, ◌∷◌, []}
+use Rattle.nuc_lookup.proofs.Ends.{ended}
 use Rattle.nuc_observe.proofs.keys.Keys.back.Goals as goal
-
-pub loop-init : goal.loop-init
-loop-init c =
-    let past = ap (λ s. length s.past) c.self.view_is in
-    let same = length_past c.self.inside.pairing.numbers c.self.inside.undos.items in
-    let undos = c.self.inside.undos.ok.0 in
-    record {
-      settled = refl;
-      end = omega (arith, past, same, undos, c.len-end.ensures);
-      left = omega arith;
-      spare = omega arith;
-    }
 
 pub loop-preserved : goal.loop-preserved
 loop-preserved c =

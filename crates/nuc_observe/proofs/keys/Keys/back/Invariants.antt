@@ -1,5 +1,5 @@
 use Rattle.std.proofs.Common.{◌≡◌, ◌≤◌, ◌+◌, length}
-use Rattle.nuc_observe.specs.State.{settled_of}
+use Rattle.nuc_lookup.specs.State.{settled_of}
 use Rattle.nuc_observe.proofs.keys.Keys.back.Given as goal
 
 abbrev pub invariant-loop : goal.invariant-loop

@@ -1,39 +1,23 @@
-use Rattle.std.proofs.Common.{ap, ◌∙◌, sym, arith, subst, ◌++◌, ◌∷◌, [], IfSome}
-use Rattle.nuc_observe.specs.Keys.{AreKeys, IsFree, KeyMap}
-use Rattle.nuc_observe.specs.State.{first_or}
-use Rattle.nuc_observe.specs.declared.undo.Undo.{Undo}
-use Rattle.nuc_observe.proofs.Undoing.{change_kept, change_past, change_room, change_settled, keys_with}
+use Rattle.std.proofs.Common.{◌≤◌, ap, ◌∙◌, sym, subst, arith, rules, IfSome}
+use Rattle.std.specs.FinMap.{len}
+use Rattle.nuc_observe.specs.Inverse.{led_back}
+use Rattle.nuc_observe.specs.Keys.{IsFree, KeyMap}
+use Rattle.nuc_observe.proofs.Undoing.{change_kept, change_room}
 use Rattle.nuc_observe.proofs.keys.Keys.change.Goals as goal
 
-pub set-before-requires-clause-room : goal.set-before-requires-clause-room
-set-before-requires-clause-room c =
+pub lead_back-requires : goal.lead_back-requires
+lead_back-requires c =
     let spare = c.in_ok-reserve.ensures.ok in
     let is = ap (λ s. s.spare) c.self.view_is in
-    change_room c.self.inside.pairing c.self.inside.undos.items c.self.inside.settled_len c.args.id.0 c.args.key c.self.invariant (omega arith)
-
-pub invariant_of-self : goal.invariant_of-self
-invariant_of-self c =
-    let spare = c.in_ok-reserve.ensures.ok in
-    let is = ap (λ s. s.spare) c.self.view_is in
-    let kept = c.set-before.ensures.room in
-    let u : Undo = record { id = c.args.id; before = c.set-before.result } in
     let free = subst (λ (m : KeyMap). IfSome c.args.key (λ k. IsFree m c.args.id.0 k.0)) (sym (ap (λ s. s.now) c.self.view_is ∙ c.in_ok-reserve.ensures.now)) c.requires.free in
-    change_kept c.self.inside.pairing c.set-before.new.self c.self.inside.undos.items c.push_reserved.new.self.items c.self.inside.settled_len u c.args.key c.self.invariant
-    (subst AreKeys (sym c.set-before.ensures.numbers) (keys_with c.self.inside.pairing.numbers c.args.id.0 c.args.key c.self.invariant.now c.requires.id c.requires.key free))
-    c.set-before.ensures.numbers c.set-before.ensures.before c.push_reserved.ensures.items (omega arith)
+    subst (λ old. len (led_back c.self.inside.by_key.numbers c.args.id.0 old c.map-new.result) ≤ c.self.inside.by_key.room) (sym c.get-old.ensures)
+    (change_room c.self.inside.by_id c.self.inside.by_key c.self.invariant (omega arith) c.args.id.0 c.args.key c.map-new.result (search rules) c.requires.id c.requires.key free)
 
-pub returns-clause-past : goal.returns-clause-past
-returns-clause-past c =
-    let u : Undo = record { id = c.args.id; before = c.set-before.result } in
-    change_past c.self.inside.pairing.numbers c.set-before.new.self.numbers c.self.inside.undos.items c.push_reserved.new.self.items u c.args.key
-    c.set-before.ensures.numbers c.set-before.ensures.before c.push_reserved.ensures.items
-    ∙ (λ i. (c.self.view_is i).past ++ (c.self.view_is i).now ∷ [])
-    ∙ (λ i. c.in_ok-reserve.ensures.past i ++ c.in_ok-reserve.ensures.now i ∷ [])
-
-pub returns-clause-settled : goal.returns-clause-settled
-returns-clause-settled c =
-    let u : Undo = record { id = c.args.id; before = c.set-before.result } in
-    change_settled c.self.inside.pairing.numbers c.set-before.new.self.numbers c.self.inside.undos.items c.push_reserved.new.self.items u c.args.key
-    c.set-before.ensures.numbers c.set-before.ensures.before c.push_reserved.ensures.items
-    ∙ (λ i. first_or (c.self.view_is i).past (c.self.view_is i).now)
-    ∙ (λ i. first_or (c.in_ok-reserve.ensures.past i) (c.in_ok-reserve.ensures.now i))
+pub invariant_of-self-2 : goal.invariant_of-self-2
+invariant_of-self-2 c =
+    let spare = c.in_ok-reserve.ensures.ok in
+    let is = ap (λ s. s.spare) c.self.view_is in
+    let free = subst (λ (m : KeyMap). IfSome c.args.key (λ k. IsFree m c.args.id.0 k.0)) (sym (ap (λ s. s.now) c.self.view_is ∙ c.in_ok-reserve.ensures.now)) c.requires.free in
+    change_kept c.self.inside.by_id c.self.inside.by_key c.self.invariant (omega arith) c.args.id.0 c.args.key c.map-new.result (search rules) c.requires.id c.requires.key free
+    c.set.new.self c.lead_back.new.by_key c.in_ok-set.ensures.now c.in_ok-set.ensures.past c.in_ok-set.ensures.settled
+    (c.lead_back.ensures.numbers ∙ ap (λ old. led_back c.self.inside.by_key.numbers c.args.id.0 old c.map-new.result) c.get-old.ensures) c.lead_back.ensures.room

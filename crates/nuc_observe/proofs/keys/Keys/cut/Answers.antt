@@ -1,4 +1,5 @@
-use Rattle.nuc_observe.proofs.Undoing.{freed, kept_if_absent}
+use Rattle.nuc_lookup.proofs.Undoing.{kept_if_absent}
+use Rattle.nuc_observe.proofs.Undoing.{freed}
 use Rattle.nuc_observe.proofs.keys.Keys.cut.Goals as goal
 
 pub returns-clause-absent : goal.returns-clause-absent
