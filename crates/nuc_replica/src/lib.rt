@@ -5,6 +5,8 @@ mod ahead;
 mod apply;
 mod following;
 mod remote;
+#[cfg(test)]
+mod remote_tests;
 
 pub use following::{more_entries_keep_remotes, next_entries_follow, remotes_stay_at_a_revision};
 pub use remote::Remote;
