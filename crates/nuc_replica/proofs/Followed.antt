@@ -9,6 +9,7 @@ use Rattle.nuc_base.proofs.Maps.{get_cut_other, get_cut_same, get_put_other, get
 use Rattle.nuc_journal.specs.Entries.{tree_after, with_value}
 use Rattle.nuc_journal.specs.Journal.{IsLegalValue}
 use Rattle.nuc_journal.specs.declared.entry.Entry.{Entry}
+use Rattle.nuc_journal.proofs.Lists.{within}
 use Rattle.nuc_lookup.proofs.Maps as numbers
 use Rattle.nuc_lookup.specs.Rows.{Numbers}
 use Rattle.nuc_replica.specs.Remote.{Agree, Follows, GoesOn, HasRevision, HaveRevisions, IsRemote, RemoteState, caught_up, revisions_after, with_entries, with_revision}
@@ -131,3 +132,16 @@ within_on s rev lt le =
     let size = length-take 1 s.ahead in
     let rest = length-drop (length (take 1 s.ahead)) s.ahead in
     omega (arith, size, rest)
+
+-- the entry at a place is so many revisions beyond the cursor
+pub rev_ahead : (cursor : ℕ) (m : Nodes) (es : List Entry) (k : ℕ) (e : Entry) → GoesOn cursor m es → slice_get es k ≡ Some e → e.rev ≡ cursor + (k + 1)
+rev_ahead cursor m [] k e on at = cc
+rev_ahead cursor m (f ∷ es) zero e on at = let same : f ≡ e = cc in ap (λ (g : Entry). g.rev) (sym same) ∙ on.0.rev
+rev_ahead cursor m (f ∷ es) (suc k) e on at = rev_ahead (cursor + 1) (with_value m f.id.0 f.value) es k e on.1 at ∙ omega arith
+
+pub last_known : (s : RemoteState) (e : Entry) (es : List Entry) → ◌≡◌ {A = Option Entry} (Some e) (slice_get es (length es - 1)) → es ≡ s.ahead → IsRemote s
+    → e.rev ≡ s.cursor + length s.ahead
+last_known s e es last same remote =
+    let at : slice_get s.ahead (length s.ahead - 1) ≡ Some e = sym (last ∙ ap (λ (fs : List Entry). slice_get fs (length fs - 1)) same) in
+    let lt = within s.ahead (length s.ahead - 1) e at in
+    rev_ahead s.cursor s.tree s.ahead (length s.ahead - 1) e remote.ahead at ∙ omega arith

@@ -1,8 +1,9 @@
 -- What a remote keeps, as it hears of entries.
 use Rattle.std.proofs.Common.{◌≡◌, ◌+◌, ◌-◌, ◌<◌, ◌≤◌, ◌++◌, ◌⊎◌, ℕ, zero, suc, List, [], ◌∷◌, length, take, drop, slice_get, Option, None, Some, IfSome, refl, sym, ◌∙◌, ap, subst, inl, inr, arith}
-use Rattle.std.proofs.lemmas.List.{append-nil, drop-append-le, length-append, length-drop, take-append-le}
-use Rattle.std.proofs.lemmas.List.Elements.{All-cons, All-nil}
+use Rattle.std.proofs.lemmas.List.{append-nil, drop-append-le, length-append, length-drop, take-append-le, take_rest}
+use Rattle.std.proofs.lemmas.List.Elements.{All-cons, All-drop, All-nil}
 use Rattle.std.specs.FinMap.{get}
+use Rattle.std.specs.List.{slice_range}
 use Rattle.nuc_base.specs.Kinds.{FitsKind}
 use Rattle.nuc_base.specs.Trees.{Nodes}
 use Rattle.nuc_base.specs.declared.node.Node.{Node}
@@ -142,3 +143,11 @@ kept_heard s u t r q c d a news more is tree revisions beyond new follows tree_s
     let spare = beyond.keeps.spare in
     kept_more t q c d a news more is new (subst (λ (x : RemoteState). Follows x news) (sym same) follows) (omega arith) revisions_spare laid
     (kept_beyond u t q c d a is beyond (kept_reserved s u r q c d a tree revisions kept))
+
+-- the copies of what is new among the news
+pub new_entries : (copies range rest known news : List Entry) → copies ≡ range → range ≡ slice_range news (length rest) (length news) → rest ≡ known
+    → copies ≡ drop (length known) news
+new_entries copies range rest known news same part known_is = same ∙ part ∙ take_rest news (length rest) ∙ ap (λ (es : List Entry). drop (length es) news) known_is
+
+pub new_fit : (cursor : ℕ) (m : Nodes) (copies known news : List Entry) → copies ≡ drop (length known) news → GoesOn cursor m news → NodesFit copies
+new_fit cursor m copies known news new on = subst NodesFit (sym new) (All-drop (λ e. IfSome e.value FitsKind) (length known) news (nodes_fit cursor m news on))

@@ -1,4 +1,5 @@
 pub mod Followed
+pub mod Journaled
 pub mod Heard
 pub mod Kept
 pub mod Laying

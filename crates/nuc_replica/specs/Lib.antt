@@ -1,3 +1,4 @@
 pub mod Ahead
+pub mod Following
 pub mod Local
 pub mod Remote

@@ -1,10 +1,14 @@
-//! What a client knows of the server: its tree at the client's cursor, and the entries beyond it that were heard of.
+//! The two sides that a client knows: what it knows of the server, and the folder as it was last observed.
 #![tactic(auto)]
 
 mod ahead;
 mod apply;
+mod following;
 mod local;
 mod remote;
+#[cfg(test)]
+mod remote_tests;
 
+pub use following::{more_entries_keep_remotes, next_entries_follow, remotes_stay_at_a_revision};
 pub use local::Local;
 pub use remote::Remote;

@@ -77,6 +77,16 @@ impl<T: TreeLike> Remote<T> {
         self.cursor
     }
 
+    /// The last revision that is known of: that of the last entry that was heard of, or the cursor.
+    pub fn known(&self) -> u64
+        ensures { result ≡ self.now.now.cursor + length self.now.now.ahead }
+    {
+        match self.ahead.rest().last() {
+            Some(entry) => entry.rev,
+            None => self.cursor,
+        }
+    }
+
     /// The revision of the entry that gave an identity its node, 0 where it has none.
     pub fn revision(&self, id: NodeId) -> u64
         ensures { result ≡ or_zero (map.get self.now.now.revisions id.0) }

@@ -1,12 +1,9 @@
-use Rattle.std.proofs.Common.{◌≡◌, ◌≤◌, ◌+◌, ◌∷◌, [], ◌++◌, List, ◌∙◌, ap, sym, subst, length, drop, IfSome, arith}
-use Rattle.std.specs.List.{slice_range}
-use Rattle.std.proofs.lemmas.List.{take_rest}
-use Rattle.std.proofs.lemmas.List.Elements.{All-drop}
+use Rattle.std.proofs.Common.{◌≡◌, ◌≤◌, ◌+◌, ◌∷◌, [], ◌++◌, List, ◌∙◌, ap, sym, subst, length, drop, refl, arith}
 use Rattle.nuc_base.specs.Kinds.{FitsKind}
 use Rattle.nuc_journal.specs.declared.entry.Entry.{Entry}
 use Rattle.nuc_replica.specs.Ahead.{AheadState, AreLaidFrom, AreUntaken, IsKept, NodesFit, ahead_now, state_now, state_then}
 use Rattle.nuc_replica.specs.Remote.{Follows, RemoteState, RemoteStates, heard}
-use Rattle.nuc_replica.proofs.Heard.{LaidBeyond, kept_heard, nodes_fit}
+use Rattle.nuc_replica.proofs.Heard.{LaidBeyond, kept_heard, new_entries, new_fit}
 use Rattle.nuc_replica.proofs.remote.Remote.hear.Goals as goal
 
 pub lay_by-requires-clause-places : goal.lay_by-requires-clause-places
@@ -14,10 +11,9 @@ lay_by-requires-clause-places g c = omega (arith, c.deref.type_inv, c.end_place.
 
 pub lay_by-requires-clause-fit : goal.lay_by-requires-clause-fit
 lay_by-requires-clause-fit g c =
-    let news = c.args.news.now in
-    let range : c.deref.result.now ≡ slice_range news (length c.rest.result.now) (length news) = c.deref.ensures.value ∙ c.in_ok-more.ensures ∙ c.in-Some.ensures.lookup.0.2 in
-    let new = range ∙ take_rest news (length c.rest.result.now) in
-    subst NodesFit (sym new) (All-drop (λ (e : Entry). IfSome e.value FitsKind) (length c.rest.result.now) news (nodes_fit _ _ news c.requires.goes_on))
+    new_fit c.args.self.now.now.cursor c.args.self.now.now.tree c.deref.result.now c.rest.result.now c.args.news.now
+    (new_entries c.deref.result.now c.in-Some.more.now c.rest.result.now c.rest.result.now c.args.news.now (c.deref.ensures.value ∙ c.in_ok-more.ensures) c.in-Some.ensures.lookup.0.2 refl)
+    c.requires.goes_on
 
 pub invariant_of-self-2 : goal.invariant_of-self-2
 invariant_of-self-2 g c =
@@ -32,8 +28,7 @@ invariant_of-self-2 g c =
         (record { keeps = laid.keeps; before = laid.before; before_then = laid.before_then; untaken = laid.untaken }) in
     let nodes : AreLaidFrom (length a.entries) c.lay_by.new.tree.laid more =
         subst (AreLaidFrom (length a.entries) c.lay_by.new.tree.laid) c.deref.ensures.value (subst (λ n. AreLaidFrom n c.lay_by.new.tree.laid c.deref.result.now) end laid.ok) in
-    let range : more ≡ slice_range news (length c.rest.result.now) (length news) = c.in_ok-more.ensures ∙ c.in-Some.ensures.lookup.0.2 in
-    let new : more ≡ drop (length (ahead_now a)) news = range ∙ take_rest news (length c.rest.result.now) ∙ ap (λ (es : List Entry). drop (length es) news) c.rest.ensures.rest in
+    let new = new_entries more c.in-Some.more.now c.rest.result.now (ahead_now a) news c.in_ok-more.ensures c.in-Some.ensures.lookup.0.2 c.rest.ensures.rest in
     subst (λ b. IsKept c.lay_by.new.tree c.reserve-2.new.self inside.cursor inside.settled_cursor b) (sym c.in_ok-add.ensures.ok)
     (kept_heard inside.tree c.reserve.new.self c.lay_by.new.tree inside.revisions c.reserve-2.new.self inside.cursor inside.settled_cursor a news more c.rest.ensures.places
       c.in_ok-reserve.ensures.keeps (record { now = room.now; past = room.past; spare = room.spare }) beyond new
