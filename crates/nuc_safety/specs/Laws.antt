@@ -1,8 +1,8 @@
 -- What follows of operations that are together, and of a batch.
-use Rattle.std.specs.Prelude.{◌≡◌, ◌≤◌, List, [], ◌∷◌, length, All}
+use Rattle.std.specs.Prelude.{◌≡◌, ◌<◌, ◌≤◌, ℕ, Bool, List, [], ◌∷◌, length, All}
 use Rattle.nuc_base.specs.Changes.{changed}
-use Rattle.nuc_base.specs.Trees.{Nodes, WellFormed}
-use Rattle.nuc_class.specs.Due.{IsLegalOp}
+use Rattle.nuc_base.specs.Trees.{Nodes, OneKind, WellFormed}
+use Rattle.nuc_class.specs.Due.{IsDue}
 use Rattle.nuc_class.specs.declared.op.Op.{Op}
 use Rattle.nuc_safety.specs.Batch.{IsPossible, IsBatch, InEveryOrder}
 use Rattle.nuc_safety.specs.FirstFit.{FirstFit, EachIsSettled, IsPartOf, BeginsWith, most_in_batch}
@@ -12,10 +12,15 @@ use Rattle.nuc_safety.specs.Together.{Together}
 abbrev pub TogetherEitherWay : Type 0
 TogetherEitherWay = (r l s : Nodes) (a b : Op) → Together r l s a b → Together r l s b a
 
--- of two possible operations that are together, the second is still legal after the first
-abbrev pub TogetherAfter : Type 0
-TogetherAfter = (r l s : Nodes) (a b : Op) → WellFormed r → WellFormed l → WellFormed s → IsPossible r l s a → IsPossible r l s b → Together r l s a b
-    → IsLegalOp (changed r a.id.0 a.remote) (changed l a.id.0 a.local) (changed s a.id.0 a.synced) b
+-- what could be carried out still can be after an operation that it is together with
+abbrev pub StaysPossible : Type 0
+StaysPossible = (r l s : Nodes) (a b : Op) → WellFormed r → WellFormed l → WellFormed s → IsPossible r l s a → IsPossible r l s b → Together r l s a b
+    → IsPossible (changed r a.id.0 a.remote) (changed l a.id.0 a.local) (changed s a.id.0 a.synced) b
+
+-- what is due can be carried out
+abbrev pub DueIsPossible : Type 0
+DueIsPossible = (same : ℕ → ℕ → Bool) (r l s : Nodes) (x : ℕ) (op : Op) → WellFormed r → WellFormed l → OneKind r l → 0 < x → IsDue same r l s x op
+    → IsPossible r l s op
 
 -- a list has one first fit
 abbrev pub OneFirstFit : Type 0

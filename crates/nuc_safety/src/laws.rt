@@ -1,13 +1,18 @@
-ghost use Rattle.nuc_safety.specs.Laws.{BatchInEveryOrder, FirstFitIsBatch, FirstFitIsPart, FirstFitSettlesEach, FirstIsTaken, OneFirstFit, TogetherAfter, TogetherEitherWay};
+ghost use Rattle.nuc_safety.specs.Laws.{BatchInEveryOrder, DueIsPossible, FirstFitIsBatch, FirstFitIsPart, FirstFitSettlesEach, FirstIsTaken, OneFirstFit, StaysPossible, TogetherEitherWay};
 
 /// Whether two operations are together doesn't depend on which is named first.
 pub fn together_either_way()
     ensures { TogetherEitherWay }
 {}
 
-/// After one of two operations that are together, the other is still legal.
-pub fn together_stays_legal()
-    ensures { TogetherAfter }
+/// What could be carried out still can be after an operation that it is together with.
+pub fn together_stays_possible()
+    ensures { StaysPossible }
+{}
+
+/// What is due can be carried out.
+pub fn what_is_due_is_possible()
+    ensures { DueIsPossible }
 {}
 
 /// A list has one first fit.

@@ -10,6 +10,7 @@ mod tests;
 pub use batch::first_fit;
 pub use laws::{
     a_batch_in_every_order, a_first_fit_is_a_batch, a_first_fit_is_a_part, each_is_settled,
-    one_first_fit, the_first_is_taken, together_either_way, together_stays_legal,
+    one_first_fit, the_first_is_taken, together_either_way, together_stays_possible,
+    what_is_due_is_possible,
 };
 pub use pair::together;
