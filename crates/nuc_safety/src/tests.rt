@@ -1,6 +1,7 @@
 //! Which operations are together, and what a batch takes, over small trees.
-ghost use Rattle.std.specs.Prelude.{◌≡◌, ◌<◌, ℕ, Some, All, IfOk, nat_lt, if◌then◌else◌};
+ghost use Rattle.std.specs.Prelude.{◌≡◌, ◌≤◌, ℕ, Some, All, IfOk};
 ghost use Rattle.std.specs.FinMap.{get};
+ghost use Rattle.nuc_base.specs.Kinds.{FitsKind};
 ghost use Rattle.nuc_base.specs.Trees.{OneKind, WellFormed};
 ghost use Rattle.nuc_safety.specs.Batch.{IsPossible};
 
@@ -8,7 +9,6 @@ use crate::{first_fit, together};
 use nuc_base::{Change, Hashes, Kind, Name, Node, NodeId, Place, TreeLike, Ver};
 use nuc_class::{Effect, Op, Verb, due};
 use nuc_tree::Tree;
-use sqlite_items::Items;
 use std::alloc::Global;
 use std::process::Abort;
 use std::test::Fail;
@@ -26,33 +26,43 @@ impl Hashes for AllDiffer {
     }
 }
 
-/// An identity, its parent and its name. Below 100 it is a folder, else a file.
+/// An identity, its parent and its name.
 type Row = (u64, u64, &'static [u8]);
 
-fn node(alloc: Global, id: u64, parent: u64, name: &[u8]) -> Result<Node, Fail> {
+fn folder(alloc: Global, parent: u64, name: &[u8]) -> Result<Node, Fail>
+    ensures { IfOk result (λ n. FitsKind n × (n.kind ≡ Kind.Folder)) }
+{
     let name = Name::new(alloc, name)?;
     let parent = NodeId(parent);
     Ok(Node {
         place: Place { parent, name },
-        kind: if id < 100 { Kind::Folder } else { Kind::File },
-        ver: Ver(if id < 100 { 0 } else { id }),
+        kind: Kind::Folder,
+        ver: Ver(0),
         bit: false,
     })
 }
 
-/// The tree with these nodes, parents first.
-fn tree(rt: &impl Abort, alloc: Global, rows: &[Row]) -> Result<Tree, Fail> {
+/// The tree with these folders, parents first.
+fn tree(rt: &impl Abort, alloc: Global, rows: &[Row]) -> Result<Tree, Fail>
+    ensures form { IfOk result (λ tree. WellFormed tree.nodes) }
+    ensures folders { IfOk result (λ tree. (x : ℕ) (n : _) → get tree.nodes x ≡ Some n → n.kind ≡ Kind.Folder) }
+{
     let mut tree = Tree::new(alloc);
     for &(id, parent, name) in rows {
         assert!(rt; id > 0);
-        tree.put(NodeId(id), node(alloc, id, parent, name)?)?;
+        tree.put(NodeId(id), folder(alloc, parent, name)?)?;
     }
     Ok(tree)
 }
 
-/// The operations that are due at the identities below this one.
-fn all_due(alloc: Global, trees: &[Tree; 3], end: u64) -> Result<Vec<Op>, Fail> {
-    let [r, l, s] = trees;
+/// The operations that are due at the identities below `end`.
+fn all_due(alloc: Global, r: &Tree, l: &Tree, s: &Tree, end: u64) -> Result<Vec<Op>, Fail>
+    requires remote { WellFormed r.now.nodes }
+    requires local { WellFormed l.now.nodes }
+    requires synced { WellFormed s.now.nodes }
+    requires kinds { OneKind r.now.nodes l.now.nodes }
+    ensures { IfOk result (λ ops. All (IsPossible r.now.nodes l.now.nodes s.now.nodes) ops.items) }
+{
     let mut ops = Vec::new(alloc);
     for id in 1..end {
         if let Some(op) = due(alloc, r, l, s, &AllDiffer, NodeId(id))? {
@@ -70,25 +80,22 @@ fn ids(alloc: Global, ops: &[Op]) -> Result<Vec<u64>, Fail> {
     Ok(ids)
 }
 
-/// What is due and what the batch takes of it.
-fn planned(
+/// Whether just these are due, and the batch takes just those.
+fn takes(
     rt: &impl Abort,
     alloc: Global,
     trees: [&[Row]; 3],
-    end: u64,
-) -> Result<(Vec<u64>, Vec<u64>), Fail> {
+    due: &[u64],
+    taken: &[u64],
+) -> Result<bool, Fail> {
     let [r, l, s] = trees;
-    let (r, l, s) = (
-        tree(rt, alloc, r)?,
-        tree(rt, alloc, l)?,
-        tree(rt, alloc, s)?,
-    );
-    let trees = [r, l, s];
-    let ops = all_due(alloc, &trees, end)?;
-    let due = ids(alloc, &ops)?;
-    let [r, l, s] = &trees;
-    let batch = first_fit(alloc, r, l, s, ops)?;
-    Ok((due, ids(alloc, batch.as_slice())?))
+    let r = tree(rt, alloc, r)?;
+    let l = tree(rt, alloc, l)?;
+    let s = tree(rt, alloc, s)?;
+    let ops = all_due(alloc, &r, &l, &s, 6)?;
+    let found = ids(alloc, &ops)?;
+    let batch = first_fit(alloc, &r, &l, &s, ops)?;
+    Ok(found.as_slice() == due && ids(alloc, batch.as_slice())?.as_slice() == taken)
 }
 
 const A: Row = (1, 0, b"A");
@@ -103,43 +110,61 @@ const Z: Row = (4, 0, b"Z");
 fn moves_that_would_close_a_cycle(rt: HostRuntime) -> Result<(), Fail> {
     let synced = [A, Y, (3, 2, b"X".as_slice()), Z];
     let local = [A, (2, 1, b"Y".as_slice()), X, Z];
-    let remote = [Y, Z, (3, 4, b"X".as_slice()), (1, 3, b"A")];
-    let (due, batch) = planned(&rt, rt.alloc(), [&remote, &local, &synced], 5)?;
-    assert!(rt; due.as_slice() == [1, 2, 3].as_slice());
-    assert!(rt; batch.as_slice() == [1].as_slice());
+    let remote = [
+        Y,
+        Z,
+        (3, 4, b"X".as_slice()),
+        (1, 3, b"A".as_slice()),
+        (5, 0, b"N".as_slice()),
+    ];
+    let trees = [&remote[..4], &local, &synced];
+    assert!(rt; takes(&rt, rt.alloc(), trees, &[1, 2, 3], &[1])?);
     // A later one that is together with what was taken is taken too.
-    let more = [Y, Z, (3, 4, b"X".as_slice()), (1, 3, b"A"), (5, 0, b"N")];
-    let (due, batch) = planned(&rt, rt.alloc(), [&more, &local, &synced], 6)?;
-    assert!(rt; due.as_slice() == [1, 2, 3, 5].as_slice());
-    assert!(rt; batch.as_slice() == [1, 5].as_slice());
+    let trees = [&remote[..], &local, &synced];
+    assert!(rt; takes(&rt, rt.alloc(), trees, &[1, 2, 3, 5], &[1, 5])?);
     Ok(())
+}
+
+/// Local has this many files that the other two trees lack.
+fn files(alloc: Global, count: u8) -> Result<Tree, Fail>
+    requires { count ≤ 60 }
+    ensures { IfOk result (λ tree. WellFormed tree.nodes) }
+{
+    let mut tree = Tree::new(alloc);
+    for i in 0..count {
+        let node = Node {
+            place: Place {
+                parent: NodeId(0),
+                name: Name::new(alloc, &[b'A' + i])?,
+            },
+            kind: Kind::File,
+            ver: Ver(1 + i as u64),
+            bit: false,
+        };
+        tree.put(NodeId(1 + i as u64), node)?;
+    }
+    Ok(tree)
 }
 
 #[test]
 fn a_batch_is_full_at_32(rt: HostRuntime) -> Result<(), Fail> {
     let alloc = rt.alloc();
-    let mut local = Tree::new(alloc);
-    for i in 0..33u8 {
-        let name = [b'A' + i];
-        let id = 100 + i as u64;
-        local.put(NodeId(id), node(alloc, id, 0, &name)?)?;
-    }
-    let trees = [Tree::new(alloc), local, Tree::new(alloc)];
-    let ops = all_due(alloc, &trees, 200)?;
+    let local = files(alloc, 33)?;
+    let empty = Tree::new(alloc);
+    let ops = all_due(alloc, &empty, &local, &empty, 100)?;
     assert_eq!(rt; ops.len(), 33);
-    let [r, l, s] = &trees;
-    let batch = first_fit(alloc, r, l, s, ops)?;
+    let batch = first_fit(alloc, &empty, &local, &empty, ops)?;
     assert_eq!(rt; batch.len(), 32);
-    assert!(rt; batch.as_slice()[31].id == NodeId(131));
+    assert!(rt; batch.get(31).is_some_and(|op| op.id == NodeId(32)));
     Ok(())
 }
 
 /// What an operation writes in one tree: its identity, and the folder that it puts there, or none where it cuts.
 type Write = (u64, Option<(u64, &'static [u8])>);
 
-fn change(alloc: Global, (id, put): Write) -> Result<Change, Fail> {
+fn change(alloc: Global, (_, put): Write) -> Result<Change, Fail> {
     Ok(match put {
-        Some((parent, name)) => Change::Put(node(alloc, id, parent, name)?),
+        Some((parent, name)) => Change::Put(folder(alloc, parent, name)?),
         None => Change::Cut,
     })
 }
@@ -168,14 +193,26 @@ fn op(alloc: Global, tree: usize, write: Write) -> Result<Op, Fail> {
     Ok(op)
 }
 
+/// Whether the two are together, whichever is named first, in the tree of this number.
+fn fit(
+    alloc: Global,
+    trees: [&Tree; 3],
+    number: usize,
+    a: Write,
+    b: Write,
+) -> Result<[bool; 2], Fail> {
+    let (a, b) = (op(alloc, number, a)?, op(alloc, number, b)?);
+    let [r, l, s] = trees;
+    Ok([together(r, l, s, &a, &b), together(r, l, s, &b, &a)])
+}
+
 /// 1 `a` at the root with 2 `b` in it, and 3 `c` and 4 `d` at the root.
 const ROWS: [Row; 4] = [(1, 0, b"a"), (2, 1, b"b"), (3, 0, b"c"), (4, 0, b"d")];
 
 #[test]
 fn pairs(rt: HostRuntime) -> Result<(), Fail> {
-    let alloc = rt.alloc();
-    let full = tree(&rt, alloc, &ROWS)?;
-    let empty = Tree::new(alloc);
+    let full = tree(&rt, rt.alloc(), &ROWS)?;
+    let empty = Tree::new(rt.alloc());
     for (a, b, want) in [
         // One place, or two.
         (
@@ -188,7 +225,6 @@ fn pairs(rt: HostRuntime) -> Result<(), Fail> {
         // Below what moves, or only gets another name.
         ((3, Some((2, b"c"))), (1, Some((4, b"a"))), false),
         ((3, Some((2, b"c"))), (1, Some((0, b"e"))), true),
-        ((3, Some((2, b"c"))), (2, Some((0, b"b"))), false),
         // Into what is cut, or beside it.
         ((5, Some((3, b"n"))), (3, None), false),
         ((5, Some((1, b"n"))), (2, None), true),
@@ -196,21 +232,21 @@ fn pairs(rt: HostRuntime) -> Result<(), Fail> {
         // One identity.
         ((3, Some((0, b"n"))), (3, Some((0, b"m"))), false),
     ] {
-        for tree in 0..3 {
-            let (a, b) = (op(alloc, tree, a)?, op(alloc, tree, b)?);
-            let [r, l, s] = match tree {
-                0 => [&full, &empty, &empty],
-                1 => [&empty, &full, &empty],
-                _ => [&empty, &empty, &full],
-            };
-            assert_eq!(rt; together(r, l, s, &a, &b), want);
-            assert_eq!(rt; together(r, l, s, &b, &a), want);
-        }
+        assert!(rt; fit(rt.alloc(), [&full, &empty, &empty], 0, a, b)? == [want; 2]);
+        assert!(rt; fit(rt.alloc(), [&empty, &full, &empty], 1, a, b)? == [want; 2]);
+        assert!(rt; fit(rt.alloc(), [&empty, &empty, &full], 2, a, b)? == [want; 2]);
     }
-    let (a, b) = (op(alloc, 0, (5, None))?, op(alloc, 1, (5, None))?);
-    assert!(rt; !together(&full, &full, &full, &a, &b));
-    let a = op(alloc, 0, (5, Some((0, b"n"))))?;
-    let b = op(alloc, 1, (6, Some((0, b"n"))))?;
-    assert!(rt; together(&full, &full, &full, &a, &b));
+    Ok(())
+}
+
+#[test]
+fn two_trees(rt: HostRuntime) -> Result<(), Fail> {
+    let tree = Tree::new(rt.alloc());
+    let new = Some((0, b"n".as_slice()));
+    let a = op(rt.alloc(), 0, (5, new))?;
+    let b = op(rt.alloc(), 1, (6, new))?;
+    assert!(rt; together(&tree, &tree, &tree, &a, &b));
+    let b = op(rt.alloc(), 1, (5, new))?;
+    assert!(rt; !together(&tree, &tree, &tree, &a, &b));
     Ok(())
 }
