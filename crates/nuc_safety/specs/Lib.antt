@@ -1,0 +1,4 @@
+pub mod Batch
+pub mod FirstFit
+pub mod Laws
+pub mod Together
