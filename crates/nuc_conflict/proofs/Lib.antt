@@ -1,0 +1,4 @@
+pub mod Blockers
+pub mod FreeNames
+pub mod InTheWay
+pub mod Search

@@ -1,0 +1,18 @@
+//! Mends: what clears the way where the three trees differ and no operation can be carried out, and the names of
+//! conflicted copies.
+#![tactic(auto)]
+
+mod blocker;
+mod changes;
+mod naming;
+mod laws;
+mod mending;
+mod remedy;
+mod rules;
+#[cfg(test)]
+mod tests;
+mod topmost;
+
+pub use naming::free_name;
+pub use laws::a_mend_or_equal_trees;
+pub use mending::mend;
