@@ -61,13 +61,13 @@ module _ (r l : Nodes) (q : ℕ) where
   }
 
   -- one step up, of what was the highest so far
-  pub step_up : (at : NodeId) (n : Node) (before after : Option NodeId) → get r at.0 ≡ Some n → IsUnder r q at.0
-      → (IsAstray n (get l at.0) × (after ≡ Some at)) ⊎ (¬ (IsAstray n (get l at.0)) × (after ≡ before))
+  pub step_up : (at : NodeId) (n : Node) (own : Option Node) (before after : Option NodeId) → get r at.0 ≡ Some n → IsUnder r q at.0
+      → own ≡ get l at.0 → (IsAstray n own × (after ≡ Some at)) ⊎ (¬ (IsAstray n own) × (after ≡ before))
       → IsHighestSoFar r l q at.0 before → IsHighestSoFar r l q n.place.parent.0 after
-  step_up at n before after there under (inl (astray, is)) highest =
-      subst (λ o. IsHighestSoFar r l q n.place.parent.0 o) (sym is) (step_astray at n there under astray)
-  step_up at n before after there under (inr (fine, is)) highest =
-      subst (λ o. IsHighestSoFar r l q n.place.parent.0 o) (sym is) (step_fine at.0 n before there fine highest)
+  step_up at n own before after there under has (inl (astray, is)) highest =
+      subst (λ o. IsHighestSoFar r l q n.place.parent.0 o) (sym is) (step_astray at n there under (subst (IsAstray n) has astray))
+  step_up at n own before after there under has (inr (fine, is)) highest =
+      subst (λ o. IsHighestSoFar r l q n.place.parent.0 o) (sym is) (step_fine at.0 n before there (subst (λ o. ¬ (IsAstray n o)) has fine) highest)
 
   -- at the root the highest is known
   pub walk_ended : (at : ℕ) (found : Option NodeId) → get r at ≡ None → IsHighestSoFar r l q at found

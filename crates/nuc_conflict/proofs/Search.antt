@@ -160,15 +160,25 @@ module _ (same : ℕ → ℕ → Bool) (r l s : Nodes) where
   }
 
   -- at the end it is the topmost of all
-  pub topmost_of_all : (m : Nodes) (w : Wish) (found : Found) → IsTopmostBefore same r l s m w (len m) found → IsTopmostThere same r l s m w found.id.0
+  topmost_of_all : (m : Nodes) (w : Wish) (found : Found) → IsTopmostBefore same r l s m w (len m) found → IsTopmostThere same r l s m w found.id.0
   topmost_of_all m w found before = record {
     wished = before.wished;
     there = nth_there m before.position found.id.0 before.at;
     first = λ y there wished. let at = nth_of m y there in before.first at.0 y at.1 at.2 wished;
   }
 
-  pub none_of_all : (m : Nodes) (w : Wish) → NoneBefore m w (len m) → (x : ℕ) → IsThere m x → ¬ (IsWish same r l s x w)
+  none_of_all : (m : Nodes) (w : Wish) → NoneBefore m w (len m) → (x : ℕ) → IsThere m x → ¬ (IsWish same r l s x w)
   none_of_all m w none x there wished = let at = nth_of m x there in none at.0 x at.1 at.2 wished
+
+  pub topmost_found : (m : Nodes) (w : Wish) (i : ℕ) (best : Option Found) (found : Found) → i ≡ len m → best ≡ Some found
+      → IsTopmostSoFar same r l s m w i best → IsTopmostThere same r l s m w found.id.0
+  topmost_found m w i best found all is so_far =
+      topmost_of_all m w found (subst (λ o. IsTopmostSoFar same r l s m w (len m) o) is (subst (λ k. IsTopmostSoFar same r l s m w k best) all so_far))
+
+  pub none_found : (m : Nodes) (w : Wish) (i : ℕ) (best : Option Found) → i ≡ len m → best ≡ None
+      → IsTopmostSoFar same r l s m w i best → (x : ℕ) → IsThere m x → ¬ (IsWish same r l s x w)
+  none_found m w i best all is so_far =
+      none_of_all m w (subst (λ o. IsTopmostSoFar same r l s m w (len m) o) is (subst (λ k. IsTopmostSoFar same r l s m w k best) all so_far))
 
   pub topmost_down : (x : ℕ) → IsTopmostThere same r l s r wish.Down x → IsTopmost same r l s r wish.Down x
   topmost_down x top = record { wished = top.wished; first = λ y wished. top.first y (down_there y wished) wished }

@@ -25,7 +25,8 @@ loop-preserved g c =
     record {
       under = under_trans r c.loop.at.0 c.args.from.0 n.place.parent.0 c.loop.invariant.under (up c.loop.at.0 n stands here);
       left = (rest.0, rest.1, (let one = rest.2 in let few = left.2 in omega (arith, one, few)));
-      highest = step_up r l c.args.from.0 c.loop.at n c.loop.highest c.higher.result stands c.loop.invariant.under c.higher.ensures c.loop.invariant.highest;
+      highest = step_up r l c.args.from.0 c.loop.at n _ c.loop.highest c.higher-highest.result stands c.loop.invariant.under c.get-in-loop.ensures
+          c.higher-highest.ensures c.loop.invariant.highest;
     }
 
 pub returns-in_default : goal.returns-in_default

@@ -22,5 +22,5 @@ pub returns-else-is_as_high : goal.returns-else-is_as_high
 returns-else-is_as_high g c =
     let nodes = g.T.TreeLike.nodes in
     topmost_new (g.H.Hashes.same c.args.h.now) (nodes c.args.r.now) (nodes c.args.l.now) (nodes c.args.s.now) (nodes c.args.tree.now) c.args.wanted c.args.i
-    (record { id = c.args.id; depth = c.depth_of-depth.result }) c.args.best c.requires.tree c.requires.at c.if-wishes.ensures c.depth_of-depth.ensures
+    (record { id = c.args.id; depth = c.depth_of-depth.result }) c.args.best c.requires.tree c.requires.at c.if-not-wishes.ensures c.depth_of-depth.ensures
     c.if-is_as_high.ensures c.requires.so_far
