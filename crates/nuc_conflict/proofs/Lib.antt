@@ -1,4 +1,9 @@
 pub mod Blockers
+pub mod Cuts
+pub mod Downs
 pub mod FreeNames
 pub mod InTheWay
 pub mod Search
+pub mod Stuck
+pub mod Targets
+pub mod Ups
