@@ -61,8 +61,7 @@ one_unused r l s parent name most is small =
     ∙ ap (λ k. len r + (len l + k)) (names_long s) in
     let free = free_candidate name taken (omega (arith, few, is, small)) in
     let P : List ℕ → Type 0 = λ t. ¬ (SameName (candidate name free.0) t) in
-    let rest = all_right P (names r) (names l ++ names s) free.3 in
-    (
+    let rest = all_right P (names r) (names l ++ names s) free.3 in (
       free.0,
       free.1,
       (let bound = free.2 in omega (arith, bound, few, is)),

@@ -114,13 +114,13 @@ module _ (same : ℕ → ℕ → Bool) (r l s : Nodes) where
       | inl here ↦
           let one : y ≡ x = same_Some y x (sym there ∙ subst (λ k. slice_get (keys m) k ≡ Some x) (sym here) at) in
           subst (λ z. Precedes m found.id.0 z) (sym one) (λ a b up down.
-              let first : a ≡ found.depth = one_depth m found.id.0 a found.depth form up so_far.deep in
-              let second : b ≡ d = one_depth m x b d form down deep in
-              let less : found.id.0 < x = nth_rises m so_far.position i found.id.0 x so_far.within so_far.at at in
-              elim (cases_lt found.depth d) [
-                | inl higher ↦ inl (omega (arith, first, second, higher))
-                | inr no_higher ↦ inr (omega (arith, first, second, high, no_higher), omega (arith, less))
-              ])
+          let first : a ≡ found.depth = one_depth m found.id.0 a found.depth form up so_far.deep in
+          let second : b ≡ d = one_depth m x b d form down deep in
+          let less : found.id.0 < x = nth_rises m so_far.position i found.id.0 x so_far.within so_far.at at in
+          elim (cases_lt found.depth d) [
+            | inl higher ↦ inl (omega (arith, first, second, higher))
+            | inr no_higher ↦ inr (omega (arith, first, second, high, no_higher), omega (arith, less))
+          ])
       | inr apart ↦ so_far.first j y (omega (arith, below, apart)) there wished
     ];
   }

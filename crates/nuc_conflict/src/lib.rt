@@ -4,15 +4,15 @@
 
 mod blocker;
 mod changes;
-mod naming;
 mod laws;
 mod mending;
+mod naming;
 mod remedy;
 mod rules;
 #[cfg(test)]
 mod tests;
 mod topmost;
 
-pub use naming::free_name;
 pub use laws::a_mend_or_equal_trees;
 pub use mending::mend;
+pub use naming::free_name;

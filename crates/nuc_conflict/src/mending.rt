@@ -67,14 +67,22 @@ fn split<T: TreeLike>(
     requires { IsThere (T.nodes l.now) id.0 }
     ensures { IfOk result (IsSplit (T.nodes r.now) (T.nodes l.now) (T.nodes s.now) next.0 id.0) }
 {
-    let Some(own) = l.get(id) else {
-        unreachable!()
-    };
+    let Some(own) = l.get(id) else { unreachable!() };
     let parent = own.place.parent;
     let name = free_name(alloc, r, l, s, parent, &own.place.name)?;
     let local = Change::Put(own.moved_to(Place { parent, name }));
     let synced = cut_of(s.get(id));
-    local_op(alloc, l, s, Verb::Split, id, next, local, synced, Effect::Disk)
+    local_op(
+        alloc,
+        l,
+        s,
+        Verb::Split,
+        id,
+        next,
+        local,
+        synced,
+        Effect::Disk,
+    )
 }
 
 fn evict<T: TreeLike, H: Hashes>(
@@ -126,16 +134,20 @@ fn adopt<T: TreeLike>(
         unreachable!()
     };
     let local = Change::Put(with_bit(node.copy(alloc)?, own.bit));
-    local_op(alloc, l, s, Verb::Adopt, id, other, local, Change::Keep, Effect::Nothing)
+    local_op(
+        alloc,
+        l,
+        s,
+        Verb::Adopt,
+        id,
+        other,
+        local,
+        Change::Keep,
+        Effect::Nothing,
+    )
 }
 
-fn revive<T: TreeLike>(
-    alloc: Global,
-    r: &T,
-    l: &T,
-    s: &T,
-    id: NodeId,
-) -> Result<Op, AllocError>
+fn revive<T: TreeLike>(alloc: Global, r: &T, l: &T, s: &T, id: NodeId) -> Result<Op, AllocError>
     requires { IsThere (T.nodes r.now) id.0 }
     ensures { IfOk result (IsRevival (T.nodes r.now) (T.nodes l.now) (T.nodes s.now) id.0) }
 {
@@ -143,16 +155,20 @@ fn revive<T: TreeLike>(
         unreachable!()
     };
     let local = Change::Put(node.copy(alloc)?);
-    local_op(alloc, l, s, Verb::Revive, id, NodeId(0), local, Change::Keep, Effect::Disk)
+    local_op(
+        alloc,
+        l,
+        s,
+        Verb::Revive,
+        id,
+        NodeId(0),
+        local,
+        Change::Keep,
+        Effect::Disk,
+    )
 }
 
-fn move_back<T: TreeLike>(
-    alloc: Global,
-    r: &T,
-    l: &T,
-    s: &T,
-    id: NodeId,
-) -> Result<Op, AllocError>
+fn move_back<T: TreeLike>(alloc: Global, r: &T, l: &T, s: &T, id: NodeId) -> Result<Op, AllocError>
     requires remote { IsThere (T.nodes r.now) id.0 }
     requires local { IsThere (T.nodes l.now) id.0 }
     ensures { IfOk result (IsMoveBack (T.nodes r.now) (T.nodes l.now) (T.nodes s.now) id.0) }
@@ -161,7 +177,17 @@ fn move_back<T: TreeLike>(
         unreachable!()
     };
     let local = Change::Put(own.moved_to(node.place.copy(alloc)?));
-    local_op(alloc, l, s, Verb::Unmove, id, NodeId(0), local, Change::Keep, Effect::Disk)
+    local_op(
+        alloc,
+        l,
+        s,
+        Verb::Unmove,
+        id,
+        NodeId(0),
+        local,
+        Change::Keep,
+        Effect::Disk,
+    )
 }
 
 /// An operation that leaves Remote as it is.

@@ -18,8 +18,7 @@ loop-depth-preserved g c =
     let m = g.T.TreeLike.nodes c.args.tree.now in
     let (k, left, whole, short) = c.loop-depth.invariant in
     let stands : map.get m c.loop-depth.at.0 ≡ Some c.in-Some.node.now = sym c.in-Some.ensures in
-    let rest = next_step m 0 c.loop-depth.at.0 k c.in-Some.node.now left (node_below_root m c.loop-depth.at.0 c.in-Some.node.now c.requires.tree stands) stands in
-    (
+    let rest = next_step m 0 c.loop-depth.at.0 k c.in-Some.node.now left (node_below_root m c.loop-depth.at.0 c.in-Some.node.now c.requires.tree stands) stands in (
       rest.0,
       rest.1,
       subst (λ d. Steps m 0 c.args.id.0 d) (let one = rest.2 in omega (arith, one)) whole,
