@@ -11,7 +11,8 @@ use Rattle.nuc_class.specs.Wishes.{AllEqual, IsWish}
 use Rattle.nuc_class.specs.declared.wishes.Wish.{Wish}
 use Rattle.nuc_class.specs.declared.wishes.Wish.TheVariants as wish
 use Rattle.nuc_conflict.specs.Laws.{MendOrEqual}
-use Rattle.nuc_conflict.proofs.Downs.{going_local_parts, going_remote_parts, no_down, not_only_synced, wish_of}
+use Rattle.nuc_conflict.proofs.Calm.{going_local_parts, going_remote_parts, not_only_synced}
+use Rattle.nuc_conflict.proofs.Downs.{no_down, wish_of}
 use Rattle.nuc_conflict.proofs.Stuck.{Stuck, not_cut_down, not_cut_up, not_forget}
 use Rattle.nuc_conflict.proofs.Ups.{no_up}
 

@@ -18,7 +18,8 @@ use Rattle.nuc_class.proofs.Rows.{one_wish}
 use Rattle.nuc_class.proofs.Walk.{going-child}
 use Rattle.nuc_conflict.specs.Remedies.{IsClearUp}
 use Rattle.nuc_conflict.specs.Topmost.{IsTopmost}
-use Rattle.nuc_conflict.proofs.Downs.{going_local_parts, going_remote_parts, no_down, not_only_synced, up_values, wish_of}
+use Rattle.nuc_conflict.proofs.Calm.{going_local_parts, going_remote_parts, not_only_synced, up_values}
+use Rattle.nuc_conflict.proofs.Downs.{no_down, wish_of}
 use Rattle.nuc_conflict.proofs.Search.{up_there}
 use Rattle.nuc_conflict.proofs.Stuck.{Stuck, not_up}
 

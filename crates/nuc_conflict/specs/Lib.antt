@@ -1,3 +1,4 @@
+pub mod Facts
 pub mod FreeName
 pub mod Laws
 pub mod Mends
