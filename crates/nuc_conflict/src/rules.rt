@@ -1,4 +1,4 @@
-ghost use Rattle.std.specs.Prelude.{◌≡◌, ◌≢◌, Some, IfOk, IfSome, MatchBool, MatchOption};
+ghost use Rattle.std.specs.Prelude.{◌≡◌, ◌≢◌, None, Some, IfOk, IfSome, MatchBool, MatchOption};
 ghost use Rattle.std.specs.FinMap as map;
 ghost use Rattle.nuc_base.specs.Legal.{IsFree};
 ghost use Rattle.nuc_base.specs.Trees.{IsUnder, WellFormed};
@@ -179,12 +179,16 @@ fn can_adopt<T: TreeLike, H: Hashes>(
     let Some(own) = l.get(other) else {
         return false;
     };
-    l.get(id).is_none()
-        && s.get(id).is_none()
-        && r.get(other).is_none()
-        && s.get(other).is_none()
+    is_in_neither(l, s, id)
+        && is_in_neither(r, s, other)
         && node.place.name.bytes() == own.place.name.bytes()
         && is_alike(node, own, h)
+}
+
+fn is_in_neither<T: TreeLike>(a: &T, b: &T, id: NodeId) -> bool
+    ensures { MatchBool result ((map.get (T.nodes a.now) id.0 ≡ None) × (map.get (T.nodes b.now) id.0 ≡ None)) (¬ ((map.get (T.nodes a.now) id.0 ≡ None) × (map.get (T.nodes b.now) id.0 ≡ None))) }
+{
+    a.get(id).is_none() && b.get(id).is_none()
 }
 
 /// Whether both are folders, or both are files of one content.

@@ -205,6 +205,67 @@ fn moves_and_brings_folders_back(rt: HostRuntime) -> Result<(), Fail> {
 }
 
 #[test]
+fn evicts_what_has_the_folders_place(rt: HostRuntime) -> Result<(), Fail> {
+    let (m, c) = (
+        (1, 0, b"M".as_slice(), 0, false),
+        (2, 1, b"C".as_slice(), 0, false),
+    );
+    let x = (3, 0, b"X".as_slice(), 0, false);
+    is_mend(
+        &rt,
+        rt.alloc(),
+        [
+            &[m, c, (3, 2, b"X", 0, false)],
+            &[x, (2, 3, b"C", 0, false), (5, 0, b"M", 6, true)],
+            &[m, c, x],
+        ],
+        Some((
+            Verb::Evict,
+            5,
+            0,
+            Effect::Disk,
+            [
+                Is::Keep,
+                Is::Put(0, b"M (conflicted copy)", 6, true),
+                Is::Keep,
+            ],
+        )),
+    )
+}
+
+#[test]
+fn serves_the_topmost_first(rt: HostRuntime) -> Result<(), Fail> {
+    let folder = (4, 0, b"d".as_slice(), 0, false);
+    let old = [
+        folder,
+        (1, 4, b"e".as_slice(), 5, false),
+        (5, 4, b"f", 6, false),
+        (3, 0, b"h", 7, false),
+        (2, 0, b"g", 8, false),
+    ];
+    let swapped = [
+        folder,
+        (1, 4, b"f".as_slice(), 5, false),
+        (5, 4, b"e", 6, false),
+        (3, 0, b"g", 7, false),
+        (2, 0, b"h", 8, false),
+    ];
+    let free = Is::Put(0, b"h (conflicted copy)", 7, false);
+    is_mend(
+        &rt,
+        rt.alloc(),
+        [&swapped, &old, &old],
+        Some((Verb::Evict, 3, 0, Effect::Disk, [Is::Keep, free, free])),
+    )?;
+    is_mend(
+        &rt,
+        rt.alloc(),
+        [&old, &swapped, &old],
+        Some((Verb::Evict, 3, 0, Effect::Commit, [free, Is::Keep, free])),
+    )
+}
+
+#[test]
 fn splits_a_file(rt: HostRuntime) -> Result<(), Fail> {
     let r = [(1, 0, b"f".as_slice(), 2, false)];
     let l = [(1, 0, b"f".as_slice(), 3, true)];
@@ -282,5 +343,73 @@ fn names_are_free(rt: HostRuntime) -> Result<(), Fail> {
             assert!(rt; below.same(&first));
         }
     }
+    Ok(())
+}
+
+/// The tree of files with the first candidates of a name, so many of them.
+fn copies(rt: &impl Abort, alloc: Global, name: &Name, count: u64) -> Result<Tree, Fail>
+    ensures { IfOk result (λ tree. WellFormed tree.nodes) }
+{
+    let mut tree = Tree::new(alloc);
+    for number in 0..count {
+        let name = name.conflicted_copy(alloc, number + 1)?;
+        let parent = NodeId(0);
+        let node = Node {
+            place: Place { parent, name },
+            kind: Kind::File,
+            ver: Ver(1),
+            bit: false,
+        };
+        assert!(rt; number < 100);
+        tree.put(NodeId(number + 1), node)?;
+    }
+    Ok(tree)
+}
+
+#[test]
+fn names_count_up(rt: HostRuntime) -> Result<(), Fail> {
+    let alloc = rt.alloc();
+    for (name, count, want) in [
+        (
+            b"a.txt".as_slice(),
+            1,
+            b"a (conflicted copy 2).txt".as_slice(),
+        ),
+        (b"a.txt", 8, b"a (conflicted copy 9).txt"),
+        (b"a.txt", 9, b"a (conflicted copy 10).txt"),
+        (b"archive.tar.gz", 9, b"archive.tar (conflicted copy 10).gz"),
+        (b"..a", 8, b". (conflicted copy 9).a"),
+        (b"x.y.", 1, b"x.y. (conflicted copy 2)"),
+        (
+            b"a.eeeeeeeeeeeeeeeee",
+            1,
+            b"a.eeeeeeeeeeeeeeeee (conflicted copy 2)",
+        ),
+        (
+            b"a (conflicted copy 2)",
+            0,
+            b"a (conflicted copy 2) (conflicted copy)",
+        ),
+    ] {
+        let name = Name::new(alloc, name)?;
+        let (none, some) = (Tree::new(alloc), copies(&rt, alloc, &name, count)?);
+        let free = free_name(alloc, &none, &some, &none, NodeId(0), &name)?;
+        assert_eq!(rt; free.bytes(), want);
+    }
+    Ok(())
+}
+
+/// A name of 255 bytes is cut before the character that would pass the end.
+#[test]
+fn long_names_are_cut(rt: HostRuntime) -> Result<(), Fail> {
+    let alloc = rt.alloc();
+    let mut bytes = [b'a'; 255];
+    bytes[236..].copy_from_slice("ébbbbbbbbbbbbbbbbb".as_bytes());
+    let name = Name::new(alloc, &bytes)?;
+    let none = Tree::new(alloc);
+    let free = free_name(alloc, &none, &none, &none, NodeId(0), &name)?;
+    let mut want = [b'a'; 254];
+    want[236..].copy_from_slice(b" (conflicted copy)");
+    assert_eq!(rt; free.bytes(), want.as_slice());
     Ok(())
 }
