@@ -1,0 +1,17 @@
+pub mod Adoptions
+pub mod Blockers
+pub mod Calm
+pub mod Cuts
+pub mod Downs
+pub mod Evictions
+pub mod FreeNames
+pub mod InTheWay
+pub mod MendFacts
+pub mod OneMend
+pub mod OneRemedy
+pub mod Returns
+pub mod Search
+pub mod Splits
+pub mod Stuck
+pub mod Targets
+pub mod Ups

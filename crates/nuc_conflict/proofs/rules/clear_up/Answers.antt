@@ -1,0 +1,11 @@
+use Rattle.std.proofs.Common.{ap}
+use Rattle.nuc_conflict.specs.Remedies.ClearsUp.{in_remote, in_synced}
+use Rattle.nuc_conflict.specs.declared.remedy.Remedy.TheVariants.{Evict}
+use Rattle.nuc_conflict.proofs.rules.clear_up.Goals as goal
+
+pub returns-in-Some : goal.returns-in-Some
+returns-in-Some g c = in_remote c.in-Some.other c.in-Some.ensures (ap (λ p. Evict c.in-Some.other p) c.in_ok-copy.ensures)
+
+pub returns-in-Some-in_the_way : goal.returns-in-Some-in_the_way
+returns-in-Some-in_the_way g c =
+    in_synced c.in-Some-in_the_way.other c.in_default.ensures c.in-Some-in_the_way.ensures (ap (λ p. Evict c.in-Some-in_the_way.other p) c.in_ok-copy-2.ensures)
