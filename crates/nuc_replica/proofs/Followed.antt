@@ -1,5 +1,5 @@
 -- What entries make of a remote's state, one by one.
-use Rattle.std.proofs.Common.{◌≡◌, ◌≢◌, ◌+◌, ◌-◌, ◌<◌, ◌≤◌, ℕ, zero, suc, List, [], ◌∷◌, length, take, drop, slice_get, get_or, Option, None, Some, refl, sym, ◌∙◌, ap, subst, inl, inr, arith}
+use Rattle.std.proofs.Common.{◌≡◌, ◌≢◌, ◌+◌, ◌-◌, ◌<◌, ◌≤◌, ◌++◌, ℕ, zero, suc, List, [], ◌∷◌, length, take, drop, slice_get, get_or, Option, None, Some, refl, sym, ◌∙◌, ap, subst, inl, inr, arith}
 use Rattle.std.proofs.lemmas.List.{drop_more, length-drop, length-take}
 use Rattle.std.specs.FinMap.{get, insert, remove}
 use Rattle.nuc_base.specs.Trees.{Nodes, WellFormed}
@@ -32,6 +32,12 @@ no_entry s = same_state s.tree s.revisions (s.cursor + 0) s.cursor s.ahead s.ahe
 
 pub entry_by_entry : (s : RemoteState) (e : Entry) (es : List Entry) → with_entries s (e ∷ es) ≡ with_entries (with_entries s (e ∷ [])) es
 entry_by_entry s e es = same_state _ _ (s.cursor + length (e ∷ es)) ((s.cursor + 1) + length es) _ _ (omega arith) (drop_one e es s.ahead)
+
+-- an entry more is applied behind the others
+pub one_more : (s : RemoteState) (es : List Entry) (e : Entry) → with_entries (with_entries s es) (e ∷ []) ≡ with_entries s (es ++ e ∷ [])
+one_more s [] e = ap (λ (t : RemoteState). with_entries t (e ∷ [])) (no_entry s)
+one_more s (f ∷ es) e =
+    ap (λ (t : RemoteState). with_entries t (e ∷ [])) (entry_by_entry s f es) ∙ one_more (with_entries s (f ∷ [])) es e ∙ sym (entry_by_entry s f (es ++ e ∷ []))
 
 agree_rest : (e : Entry) (heard es : List Entry) → Agree heard (e ∷ es) → Agree (drop 1 heard) es
 agree_rest e [] es agree = tt

@@ -52,6 +52,10 @@ with_entries s es = record {
   ahead = drop (length es) s.ahead;
 }
 
+-- the state after some of these entries, from the first on
+abbrev pub MovedOn : RemoteState → List Entry → RemoteState → Type 0
+MovedOn s es t = (k : ℕ) × (t ≡ with_entries s (take k es))
+
 -- the state after the entries ahead up to this revision
 abbrev pub caught_up : ℕ → RemoteState → RemoteState
 caught_up rev s = with_entries s (take (rev - s.cursor) s.ahead)

@@ -1,7 +1,7 @@
 ghost use Rattle.std.specs.Prelude.{◌≡◌, ◌+◌, ◌≤◌, ◌<◌, ◌∷◌, [], length, take, OnOk, OnErr};
 ghost use Rattle.std.specs.FinMap as map;
 ghost use Rattle.nuc_base.specs.Trees.{WellFormed};
-ghost use Rattle.nuc_replica.specs.Remote.{Follows, HaveRevisions, IsRemote, caught_up, forgotten, heard, or_zero, with_entries};
+ghost use Rattle.nuc_replica.specs.Remote.{Follows, HaveRevisions, IsRemote, MovedOn, caught_up, forgotten, heard, or_zero, with_entries};
 
 use crate::ahead::Ahead;
 use crate::apply::{apply, apply_laid, copies, lay_by, note};
@@ -98,6 +98,7 @@ impl<T: TreeLike> Remote<T> {
     pub fn pull(&mut self, alloc: Global, page: &[Entry]) -> Result<(), AllocError>
         requires { Follows self.old.now page.now }
         ensures ok { OnOk result (self.new.now ≡ with_entries self.old.now page.now) }
+        ensures err { OnErr result (MovedOn self.old.now page.now self.new.now) }
         ensures settled { self.new.settled ≡ self.old.settled }
     {
         for entry in page {
@@ -174,6 +175,7 @@ impl<T: TreeLike> Remote<T> {
     fn pull_one(&mut self, alloc: Global, entry: &Entry) -> Result<(), AllocError>
         requires { Follows self.old.now (entry.now ∷ []) }
         ensures ok { OnOk result (self.new.now ≡ with_entries self.old.now (entry.now ∷ [])) }
+        ensures err { OnErr result (self.new.now ≡ self.old.now) }
         ensures settled { self.new.settled ≡ self.old.settled }
     {
         let room = self.ahead.rest().len().max(1) as u64;

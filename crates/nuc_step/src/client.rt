@@ -1,4 +1,4 @@
-ghost use Rattle.std.specs.Prelude.{◌≡◌, ◌≤◌, ◌<◌, ◌+◌, [], All, IfOk, IfSome, MatchBool, None, Some, length, option_copied, option_map, OnOk, OnErr};
+ghost use Rattle.std.specs.Prelude.{◌≡◌, ◌≤◌, ◌<◌, ◌+◌, [], All, IfOk, IfSome, MatchBool, None, Some, length, option_copied, option_map, take, ℕ, OnOk, OnErr};
 ghost use Rattle.std.specs.FinMap as map;
 ghost use Rattle.nuc_base.specs.Trees.{WellFormed};
 ghost use Rattle.nuc_flights.specs.Flights.{IsPlanned, IsTaken, StandsAt, flight_of, taken_of, without};
@@ -186,6 +186,7 @@ impl<T: TreeLike> Client<T> {
     pub fn pull(&mut self, alloc: Global, page: &[Entry]) -> Result<u64, AllocError>
         requires { Follows self.old.now.remote page.now }
         ensures ok { OnOk result (self.new.now ≡ after_pull page.now self.old.now) }
+        ensures err { OnErr result ((k : ℕ) × (self.new.now ≡ after_pull (take k page.now) self.old.now)) }
         ensures cursor { IfOk result (λ cursor. cursor ≡ self.new.now.remote.cursor) }
         ensures settled { self.new.settled ≡ self.old.settled }
     {
