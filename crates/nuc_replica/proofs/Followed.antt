@@ -1,18 +1,18 @@
 -- What entries make of a remote's state, one by one.
 use Rattle.std.proofs.Common.{◌≡◌, ◌≢◌, ◌+◌, ◌-◌, ◌<◌, ◌≤◌, ◌++◌, ℕ, zero, suc, List, [], ◌∷◌, length, take, drop, slice_get, get_or, Option, None, Some, refl, sym, ◌∙◌, ap, subst, inl, inr, arith}
 use Rattle.std.proofs.lemmas.List.{drop_more, length-drop, length-take}
-use Rattle.std.specs.FinMap.{get, insert, remove}
+use Rattle.std.specs.FinMap.{get}
 use Rattle.nuc_base.specs.Trees.{Nodes, WellFormed}
 use Rattle.nuc_base.specs.declared.node.Node.{Node}
 use Rattle.nuc_base.proofs.Forms.{cut_keeps, put_keeps}
 use Rattle.nuc_base.proofs.Maps.{get_cut_other, get_cut_same, get_put_other, get_put_same, same_or_not}
-use Rattle.nuc_journal.specs.Entries.{tree_after, with_value}
+use Rattle.nuc_journal.specs.Entries.{with_value}
 use Rattle.nuc_journal.specs.Journal.{IsLegalValue}
 use Rattle.nuc_journal.specs.declared.entry.Entry.{Entry}
 use Rattle.nuc_journal.proofs.Lists.{within}
 use Rattle.nuc_lookup.proofs.Maps as numbers
 use Rattle.nuc_lookup.specs.Rows.{Numbers}
-use Rattle.nuc_replica.specs.Remote.{Agree, Follows, GoesOn, HasRevision, HaveRevisions, IsRemote, RemoteState, caught_up, revisions_after, with_entries, with_revision}
+use Rattle.nuc_replica.specs.Remote.{Agree, Follows, GoesOn, HasRevision, HaveRevisions, IsRemote, RemoteState, caught_up, with_entries, with_revision}
 
 -- ENTRY BY ENTRY
 drop_none : {X : Type 0} (n : ℕ) → ◌≡◌ {A = List X} (drop n []) []

@@ -14,7 +14,7 @@ use Rattle.nuc_lookup.specs.State.{UndoLookupState}
 use Rattle.nuc_undo.specs.State.{UndoState}
 use Rattle.nuc_undo.specs.State as undo
 use Rattle.nuc_undo.specs.Steps.{Keeps, KeepsTree}
-use Rattle.nuc_replica.specs.Ahead.{AheadState, AreLaid, AreLaidFrom, AreUntaken, HasRoom, IsAhead, IsKept, Lies, NodesFit, ahead_now, ahead_then, state_now, state_then}
+use Rattle.nuc_replica.specs.Ahead.{AheadState, AreLaidFrom, AreUntaken, HasRoom, IsAhead, IsKept, Lies, NodesFit, ahead_now, ahead_then, state_now, state_then}
 use Rattle.nuc_replica.specs.Remote.{Agree, Follows, GoesOn, IsRemote, RemoteState, heard}
 use Rattle.nuc_replica.proofs.Kept.{KeepsLookup, kept_reserved, room_kept, same_remote, state_reserved}
 use Rattle.nuc_replica.proofs.Laying.{lies_same}

@@ -1,7 +1,7 @@
 -- A remote that follows a journal.
-use Rattle.std.proofs.Common.{◌≡◌, ◌≢◌, ◌==◌, ◌+◌, ◌-◌, ◌<◌, ◌≤◌, ◌++◌, ℕ, zero, suc, cond, true, false, List, [], ◌∷◌, length, take, drop, slice_get, Option, None, Some, refl, sym, ◌∙◌, ap, subst, inl, inr, arith}
+use Rattle.std.proofs.Common.{◌≡◌, ◌≢◌, ◌==◌, ◌+◌, ◌-◌, ◌≤◌, ◌++◌, ℕ, zero, suc, cond, List, [], ◌∷◌, length, take, drop, slice_get, Option, None, Some, refl, sym, ◌∙◌, ap, subst, inl, inr, arith}
 use Rattle.std.proofs.lemmas.Bool.Decides.{eqb_tells}
-use Rattle.std.proofs.lemmas.List.{append-nil, drop-append-le, drop-drop, drop_all, length-append, length-drop, length-take, length-take-le, take-append-le, take_rest}
+use Rattle.std.proofs.lemmas.List.{append-nil, drop-append-le, drop-drop, length-append, length-drop, length-take, length-take-le, take-append-le, take_rest}
 use Rattle.std.specs.FinMap.{empty, get, get-empty}
 use Rattle.std.specs.Ordering.{nat_cmp}
 use Rattle.nuc_base.specs.Trees.{Nodes}
@@ -9,13 +9,13 @@ use Rattle.nuc_base.specs.declared.node.Node.{Node}
 use Rattle.nuc_journal.specs.Entries.{live_revision, revision_after, revision_of, tree_after, tree_of, with_value}
 use Rattle.nuc_journal.specs.Journal.{IsJournal}
 use Rattle.nuc_journal.specs.declared.entry.Entry.{Entry}
-use Rattle.nuc_journal.proofs.Ends.{other_no, same_yes, tree_push}
+use Rattle.nuc_journal.proofs.Ends.{tree_push}
 use Rattle.nuc_journal.proofs.Histories.{page_leads}
 use Rattle.nuc_journal.proofs.Lists.{front_more, take_at, within}
 use Rattle.nuc_lookup.proofs.Maps as numbers
 use Rattle.nuc_lookup.specs.Rows.{Numbers}
 use Rattle.nuc_replica.specs.Following.{IsAt, MoreEntriesKeepIt, NextEntriesFollow, RemotesStayAt, next_entries}
-use Rattle.nuc_replica.specs.Remote.{Agree, Follows, GoesOn, HasRevision, HaveRevisions, RemoteState, caught_up, forgotten, heard, or_zero, revisions_after, with_entries, with_revision}
+use Rattle.nuc_replica.specs.Remote.{Agree, GoesOn, HasRevision, HaveRevisions, RemoteState, caught_up, forgotten, heard, or_zero, revisions_after, with_entries, with_revision}
 
 -- ENTRIES THAT FOLLOW
 from_item : (es : List Entry) (c : ℕ) (e : Entry) → slice_get es c ≡ Some e → drop c es ≡ e ∷ drop (c + 1) es

@@ -1,5 +1,5 @@
 -- What a remote keeps, as entries are applied and taken back.
-use Rattle.std.proofs.Common.{◌≡◌, ◌+◌, ◌-◌, ◌<◌, ◌≤◌, ◌++◌, ℕ, List, [], ◌∷◌, length, min, take, drop, slice_get, Option, None, Some, refl, sym, ◌∙◌, ap, subst, inl, inr, arith}
+use Rattle.std.proofs.Common.{◌≡◌, ◌+◌, ◌-◌, ◌<◌, ◌≤◌, ℕ, List, [], ◌∷◌, length, take, drop, refl, sym, ◌∙◌, ap, subst, arith}
 use Rattle.std.proofs.lemmas.List.{drop-drop, drop-take, drop_min, length-take-le, take-take}
 use Rattle.std.specs.FinMap.{get}
 use Rattle.nuc_base.specs.Trees.{Nodes}
@@ -12,7 +12,7 @@ use Rattle.nuc_lookup.specs.State as lookup
 use Rattle.nuc_undo.specs.State.{UndoState}
 use Rattle.nuc_undo.specs.State as undo
 use Rattle.nuc_undo.specs.Steps.{AllTakenBack, Changed, Keeps}
-use Rattle.nuc_replica.specs.Ahead.{AheadState, AreLaid, AreUntaken, HasRoom, IsAhead, IsKept, ahead_now, ahead_then, led_back, state_now, state_then, with_next_applied}
+use Rattle.nuc_replica.specs.Ahead.{AheadState, AreLaid, HasRoom, IsAhead, IsKept, ahead_now, ahead_then, led_back, state_now, state_then, with_next_applied}
 use Rattle.nuc_replica.specs.Remote.{Follows, IsRemote, RemoteState, with_entries, with_revision}
 use Rattle.nuc_replica.proofs.Followed.{remote_with}
 use Rattle.nuc_replica.proofs.Laying.{lies_same}

@@ -1,13 +1,13 @@
 -- Nodes that lie by under the places of entries.
-use Rattle.std.proofs.Common.{◌≡◌, ◌≢◌, ◌+◌, ◌<◌, ◌≤◌, ◌++◌, ℕ, List, [], ◌∷◌, length, take, drop, slice_get, get_or, Option, None, Some, refl, sym, ◌∙◌, ap, subst, inl, inr, arith}
+use Rattle.std.proofs.Common.{◌≡◌, ◌≢◌, ◌+◌, ◌<◌, ◌≤◌, ◌++◌, ℕ, List, [], ◌∷◌, length, take, slice_get, get_or, Option, None, Some, sym, ◌∙◌, ap, subst, inl, inr, arith}
 use Rattle.std.proofs.lemmas.List.{length-take-le, take_all, take_more}
-use Rattle.std.specs.FinMap.{get, insert, remove}
+use Rattle.std.specs.FinMap.{get, insert}
 use Rattle.nuc_base.specs.Trees.{Nodes}
 use Rattle.nuc_base.specs.declared.node.Node.{Node}
-use Rattle.nuc_base.proofs.Maps.{get_cut_other, get_put_other, get_put_same, same_or_not}
+use Rattle.nuc_base.proofs.Maps.{get_put_other, get_put_same}
 use Rattle.nuc_journal.specs.declared.entry.Entry.{Entry}
 use Rattle.nuc_journal.proofs.Lists.{push_cases}
-use Rattle.nuc_replica.specs.Ahead.{AreLaid, AreLaidFrom, Lies}
+use Rattle.nuc_replica.specs.Ahead.{AreLaidFrom, Lies}
 
 pub put_at : (m k : Nodes) (x : ℕ) (n : Node) → k ≡ insert m x n → get k x ≡ Some n
 put_at m k x n is = ap (λ m. get m x) is ∙ get_put_same m x n

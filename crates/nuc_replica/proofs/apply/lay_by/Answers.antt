@@ -1,4 +1,4 @@
-use Rattle.std.proofs.Common.{◌≡◌, ◌+◌, ◌∙◌, sym, ap, subst, inl, inr, arith, rules}
+use Rattle.std.proofs.Common.{◌≡◌, ◌+◌, ◌∙◌, sym, subst, inl, inr, arith, rules}
 use Rattle.nuc_base.proofs.Maps.{same_or_not}
 use Rattle.std.specs.FinMap.{get}
 use Rattle.nuc_replica.proofs.Laying.{laid_all, laid_more}

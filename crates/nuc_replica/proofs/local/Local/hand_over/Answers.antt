@@ -1,7 +1,6 @@
 use Rattle.std.proofs.Common.{ap, ◌∙◌}
 use Rattle.std.specs.FinMap.{insert, remove}
 use Rattle.nuc_replica.proofs.Locals.{has_key, laid_inside, sound_moved}
-use Rattle.nuc_undo.specs.Laid.{with_node}
 use Rattle.nuc_replica.proofs.local.Local.hand_over.Goals as goal
 
 pub unreachable-requires : goal.unreachable-requires

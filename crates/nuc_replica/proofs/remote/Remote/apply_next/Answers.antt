@@ -1,11 +1,10 @@
-use Rattle.std.proofs.Common.{◌≡◌, ◌<◌, ◌≤◌, ◌∷◌, [], Some, ℕ, Option, ◌∙◌, ap, sym, subst, length, take, slice_get, arith}
+use Rattle.std.proofs.Common.{◌≡◌, ◌<◌, Some, Option, ◌∙◌, ap, sym, subst, length, slice_get, arith}
 use Rattle.std.proofs.lemmas.List.{length-drop}
 use Rattle.nuc_journal.specs.declared.entry.Entry.{Entry}
 use Rattle.nuc_journal.proofs.Lists.{within}
 use Rattle.nuc_replica.specs.Ahead.{IsKept, ahead_now, state_now}
-use Rattle.nuc_replica.specs.Remote.{Follows, RemoteState, RemoteStates, with_entries}
-use Rattle.nuc_replica.proofs.Followed.{ahead_follows, take_first}
-use Rattle.nuc_replica.proofs.Kept.{Applied, Noted, kept_applied, state_applied}
+use Rattle.nuc_replica.proofs.Followed.{ahead_follows}
+use Rattle.nuc_replica.proofs.Kept.{Applied, Noted, kept_applied}
 use Rattle.nuc_replica.proofs.remote.Remote.apply_next.Goals as goal
 
 pub invariant_of-self : goal.invariant_of-self

@@ -1,5 +1,5 @@
 use Rattle.std.proofs.Common.{◌∙◌, ap, sym, subst}
-use Rattle.nuc_replica.specs.Ahead.{AheadState, IsKept, state_now, state_then}
+use Rattle.nuc_replica.specs.Ahead.{IsKept, state_now, state_then}
 use Rattle.nuc_replica.specs.Remote.{RemoteStates}
 use Rattle.nuc_replica.proofs.Kept.{LookupTakenBack, kept_back, settled_back, state_back}
 use Rattle.nuc_replica.proofs.remote.Remote.back.Goals as goal

@@ -1,4 +1,4 @@
-use Rattle.std.proofs.Common.{◌≡◌, ◌<◌, ◌≤◌, ◌+◌, ◌∙◌, ap, sym, subst, length, arith}
+use Rattle.std.proofs.Common.{◌<◌, ◌≤◌, ◌+◌, ◌∙◌, ap, sym, subst, length, arith}
 use Rattle.nuc_replica.specs.Remote.{RemoteState, RemoteStates, caught_up}
 use Rattle.nuc_replica.proofs.Followed.{caught_up_on, within_on}
 use Rattle.nuc_replica.proofs.remote.Remote.catch_up.Goals as goal

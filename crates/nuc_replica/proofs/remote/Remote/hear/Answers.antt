@@ -1,8 +1,6 @@
-use Rattle.std.proofs.Common.{◌≡◌, ◌≤◌, ◌+◌, ◌∷◌, [], ◌++◌, List, ◌∙◌, ap, sym, subst, length, drop, refl, arith}
-use Rattle.nuc_base.specs.Kinds.{FitsKind}
-use Rattle.nuc_journal.specs.declared.entry.Entry.{Entry}
-use Rattle.nuc_replica.specs.Ahead.{AheadState, AreLaidFrom, AreUntaken, IsKept, NodesFit, ahead_now, state_now, state_then}
-use Rattle.nuc_replica.specs.Remote.{Follows, RemoteState, RemoteStates, heard}
+use Rattle.std.proofs.Common.{◌∙◌, sym, subst, length, refl, arith}
+use Rattle.nuc_replica.specs.Ahead.{AreLaidFrom, IsKept, ahead_now}
+use Rattle.nuc_replica.specs.Remote.{Follows, RemoteStates}
 use Rattle.nuc_replica.proofs.Heard.{LaidBeyond, kept_heard, new_entries, new_fit}
 use Rattle.nuc_replica.proofs.remote.Remote.hear.Goals as goal
 

@@ -1,4 +1,4 @@
-use Rattle.std.proofs.Common.{◌≡◌, ◌+◌, ◌++◌, ◌∷◌, [], ◌∙◌, ap, sym, subst, drop, take, arith}
+use Rattle.std.proofs.Common.{◌+◌, ◌++◌, ◌∷◌, [], ◌∙◌, ap, sym, subst, drop, take, arith}
 use Rattle.std.proofs.lemmas.List.{take_more}
 use Rattle.nuc_replica.specs.Remote.{Follows, RemoteState, with_entries}
 use Rattle.nuc_replica.proofs.Followed.{drop_item, entry_by_entry, follows_first, follows_rest, one_more}

@@ -1,4 +1,4 @@
-use Rattle.std.proofs.Common.{◌≡◌, ◌<◌, ◌∷◌, [], ◌∙◌, ap, sym, subst, length, arith}
+use Rattle.std.proofs.Common.{◌<◌, ◌∷◌, [], ◌∙◌, ap, sym, subst, length, arith}
 use Rattle.std.specs.FinMap.{get}
 use Rattle.nuc_replica.specs.Ahead.{IsKept, state_now}
 use Rattle.nuc_replica.specs.Remote.{Follows, RemoteState, RemoteStates, with_entries}
