@@ -1,6 +1,6 @@
 -- A client stays what it is, whatever a call makes of its parts.
-use Rattle.std.specs.Prelude.{◌*◌, All}
-use Rattle.std.proofs.Common.{◌≡◌, ◌≢◌, ◌<◌, ◌≤◌, ◌+◌, ◌++◌, ℕ, zero, suc, List, [], ◌∷◌, get_or, length, map, take, drop, Option, None, Some, refl, sym, ◌∙◌, ap, subst, arith}
+use Rattle.std.specs.Prelude.{◌*◌, All, IfSome, IsSomeAnd, MatchBool}
+use Rattle.std.proofs.Common.{◌≡◌, ◌≢◌, ◌<◌, ◌≤◌, ◌+◌, ◌++◌, ℕ, zero, suc, Bool, true, false, List, [], ◌∷◌, get_or, length, map, take, drop, Option, None, Some, refl, sym, ◌∙◌, ap, subst, arith}
 use Rattle.std.proofs.lemmas.List.{length-append, length-drop, length-map}
 use Rattle.std.proofs.lemmas.List.Elements.{All-map, All-nil, All-weaker}
 use Rattle.std.specs.FinMap.{get}
@@ -9,7 +9,7 @@ use Rattle.nuc_base.specs.declared.change.Change.{Change}
 use Rattle.nuc_base.specs.declared.change.Change.TheVariants.{Keep, Put, Cut}
 use Rattle.nuc_class.specs.Due.{FitsOp}
 use Rattle.nuc_class.specs.declared.op.Op.{Op}
-use Rattle.nuc_flights.specs.Flights.{Flight, FlightsState, Stage, as_planned, flight_of, planned, staged, started, taken, without}
+use Rattle.nuc_flights.specs.Flights.{Flight, FlightsState, IsPlanned, IsStarted, IsTaken, Stage, StandsAt, as_planned, flight_of, planned, staged, started, taken, without}
 use Rattle.nuc_flights.specs.declared.taken.Taken.{Taken}
 use Rattle.nuc_flights.specs.declared.taken.Taken.TheVariants as came
 use Rattle.nuc_journal.specs.Entries.{with_value}
@@ -18,6 +18,7 @@ use Rattle.nuc_replica.specs.Local.{IsLocal, KeepsLocal, LocalState, LocalStates
 use Rattle.nuc_replica.specs.Remote.{Agree, Follows, GoesOn, IsRemote, RemoteState, RemoteStates, caught_up, heard, with_entries}
 use Rattle.nuc_replica.proofs.Followed.{entry_by_entry, follows_first, follows_rest, no_entry, remote_with}
 use Rattle.nuc_replica.proofs.Heard.{goes_on_heard}
+use Rattle.nuc_step.specs.Calls.{MayBeTaken}
 use Rattle.nuc_step.specs.Client.{ClientState, state_now, state_then}
 use Rattle.nuc_step.specs.Launch.{LaidOver}
 use Rattle.nuc_step.specs.Sound.{AreLaid, AreNumbered, AreUntaken, CanCount, ChangedOne, ChangedSynced, FitsStage, FitsTaken, HasRoom, IsClient, IsFlight, IsKept, IsLaid, MayFly, known_to}
@@ -130,6 +131,21 @@ kept_remote r q l s fs c d same remote later kept = record {
   count_then = kept.count_then;
 }
 
+pub kept_pulled : (r q : RemoteStates) (l : LocalStates) (s : UndoState) (fs : FlightsState) (c d : Counts) (es : List Entry)
+    → q.now ≡ with_entries r.now es → q.settled ≡ r.settled → Follows r.now es → IsKept r l s fs c d → IsKept q l s fs c d
+kept_pulled r q l s fs c d es is then follows kept =
+    kept_remote r q l s fs c d then (subst IsRemote (sym is) (entries_keep r.now es kept.now.remote follows)) (subst (λ t. known_to r.now ≤ known_to t) (sym is) (known_entries r.now es)) kept
+
+pub kept_heard : (r q : RemoteStates) (l : LocalStates) (s : UndoState) (fs : FlightsState) (c d : Counts) (news : List Entry)
+    → q.now ≡ heard news r.now → q.settled ≡ r.settled → Follows r.now news → IsKept r l s fs c d → IsKept q l s fs c d
+kept_heard r q l s fs c d news is then follows kept =
+    kept_remote r q l s fs c d then (subst IsRemote (sym is) (heard_keeps news r.now kept.now.remote follows)) (subst (λ t. known_to r.now ≤ known_to t) (sym is) (known_heard news r.now)) kept
+
+pub kept_caught_up : (r q : RemoteStates) (l : LocalStates) (s : UndoState) (fs : FlightsState) (c d : Counts) (rev : ℕ)
+    → q.now ≡ caught_up rev r.now → q.settled ≡ r.settled → IsKept r l s fs c d → IsKept q l s fs c d
+kept_caught_up r q l s fs c d rev is then kept =
+    kept_remote r q l s fs c d then (subst IsRemote (sym is) (caught_up_keeps rev r.now kept.now.remote)) (subst (λ t. known_to r.now ≤ known_to t) (sym is) (known_entries r.now _)) kept
+
 -- ONE FLIGHT HAS COME TO ANOTHER STAGE
 pub kept_staged : (r : RemoteStates) (l : LocalStates) (s : UndoState) (fs : FlightsState) (c d : Counts) (n : ℕ) (stage : Stage)
     → ((f : Flight) → flight_of n fs.now ≡ Some f → FitsStage (known_to r.now) f.op stage)
@@ -155,6 +171,40 @@ kept_staged r l s fs c d n stage fits kept =
       count = omega (arith, size, kept.count);
       count_then = kept.count_then;
     }
+
+same_flights : (fs : FlightsState) (now settled : List Flight) → fs.now ≡ now → fs.settled ≡ settled → record { now = now; settled = settled } ≡ fs
+same_flights fs now settled is then = rw (sym is, sym then)
+
+-- the flights are these, in other words
+pub kept_flights : (r : RemoteStates) (l : LocalStates) (s : UndoState) (fs : FlightsState) (now settled : List Flight) (c d : Counts) → fs.now ≡ now → fs.settled ≡ settled
+    → IsKept r l s (record { now = now; settled = settled }) c d → IsKept r l s fs c d
+kept_flights r l s fs now settled c d is then kept = subst (λ gs. IsKept r l s gs c d) (same_flights fs now settled is then) kept
+
+pub kept_started : (r : RemoteStates) (l : LocalStates) (s : UndoState) (fs gs : FlightsState) (c d : Counts) (n : ℕ) (b : Bool)
+    → MatchBool b (StandsAt n IsPlanned fs.now × (gs.now ≡ staged n started fs.now)) (¬ (StandsAt n IsPlanned fs.now) × (gs.now ≡ fs.now))
+    → gs.settled ≡ fs.settled → IsKept r l s fs c d → IsKept r l s gs c d
+kept_started r l s fs gs c d n true (there, is) then kept = kept_flights r l s gs (staged n started fs.now) fs.settled c d is then (kept_staged r l s fs c d n started (λ f at. tt) kept)
+kept_started r l s fs gs c d n false (none, is) then kept = kept_flights r l s gs fs.now fs.settled c d is then kept
+
+fits_flight : (remote : RemoteState) (news : List Entry) (t : Taken) (o : Option Flight) (f : Flight) → IfSome o (MayBeTaken remote news t) → o ≡ Some f
+    → FitsTaken (remote.cursor + length news) f.op t
+fits_flight remote news t o f fits is = subst (λ p. IfSome p (MayBeTaken remote news t)) is fits
+
+pub kept_taken : (r q : RemoteStates) (l : LocalStates) (s : UndoState) (fs gs : FlightsState) (c d : Counts) (n : ℕ) (t : Taken) (news : List Entry) (b : Bool)
+    → q.now ≡ heard news r.now → q.settled ≡ r.settled → Follows r.now news → IfSome (flight_of n fs.now) (MayBeTaken r.now news t)
+    → MatchBool b (StandsAt n IsStarted fs.now × (gs.now ≡ staged n (taken t) fs.now)) (¬ (StandsAt n IsStarted fs.now) × (gs.now ≡ fs.now))
+    → gs.settled ≡ fs.settled → IsKept r l s fs c d → IsKept q l s gs c d
+kept_taken r q l s fs gs c d n t news true is then follows fits (there, came) same kept =
+    let known : r.now.cursor + length news ≤ known_to q.now = subst (λ u. r.now.cursor + length news ≤ known_to u) (sym is) (news_known news r.now) in
+    kept_flights q l s gs (staged n (taken t) fs.now) fs.settled c d came same
+    (kept_staged q l s fs c d n (taken t) (λ f at. later_taken (r.now.cursor + length news) (known_to q.now) f.op t known (fits_flight r.now news t (flight_of n fs.now) f fits at))
+    (kept_heard r q l s fs c d news is then follows kept))
+kept_taken r q l s fs gs c d n t news false is then follows fits (none, came) same kept =
+    kept_flights q l s gs fs.now fs.settled c d came same (kept_heard r q l s fs c d news is then follows kept)
+
+flight_there : (o : Option Flight) (P : Flight → Type 0) → IsSomeAnd o P → (f : Flight) × (o ≡ Some f)
+flight_there None P there = absurd there
+flight_there (Some f) P there = (f, refl)
 
 -- ONE FLIGHT HAS ENDED, with a change of Local and Synced
 pub kept_finished : (r : RemoteStates) (l m : LocalStates) (s t : UndoState) (fs : FlightsState) (c b d : Counts) (n : ℕ) (f : Flight)
@@ -193,6 +243,16 @@ same_one n l = record { settled = refl; laid_then = refl; spare = omega arith; s
 
 pub same_two : (n : ℕ) (s : UndoState) → ChangedSynced n s s
 same_two n s = record { settled = refl; laid_then = refl; spare = omega arith; spare_then = omega arith; laid = λ i _. refl }
+
+-- it ends without a change
+pub kept_dropped : (r : RemoteStates) (l : LocalStates) (s : UndoState) (fs gs : FlightsState) (c d : Counts) (n : ℕ) (b : Bool)
+    → MatchBool b (StandsAt n IsTaken fs.now × (gs.now ≡ without n fs.now)) (¬ (StandsAt n IsTaken fs.now) × (gs.now ≡ fs.now))
+    → gs.settled ≡ fs.settled → IsKept r l s fs c d → IsKept r l s gs c d
+kept_dropped r l s fs gs c d n true (there, is) then kept =
+    let it = flight_there (flight_of n fs.now) (λ f. IsTaken f.stage) there in
+    kept_flights r l s gs (without n fs.now) fs.settled c d is then
+    (kept_finished r l l s s fs c c d n it.0 it.1 kept.now.local (same_one n l) kept.now.synced (same_two n s) refl (omega arith) kept)
+kept_dropped r l s fs gs c d n false (none, is) then kept = kept_flights r l s gs fs.now fs.settled c d is then kept
 
 -- NODES ARE LAID BY under numbers that no flight has had, and nothing else changes
 pub record LaidBeyond (next : ℕ) (laid laid_then new new_then : Laid) : Type 0 where
@@ -268,7 +328,7 @@ pub kept_flying : (r : RemoteStates) (l : LocalStates) (s : UndoState) (fs : Fli
     → IsKept r l s fs c d → IsKept r l s (record { now = map as_planned (numbered c.next_op r.now ops); settled = fs.settled }) b d
 kept_flying r l s fs c d ops b changes next ready kept =
     let numbers = numbered c.next_op r.now ops in
-    let size = length-map as_planned numbers ∙ length_numbered c.next_op r.now ops in
+    let size = length-map numbers as_planned ∙ length_numbered c.next_op r.now ops in
     record {
       now = record {
         remote = kept.now.remote;
