@@ -1,1 +1,3 @@
-mod Landed
+pub mod Ends
+pub mod Flying
+pub mod Kept

@@ -2,6 +2,7 @@ ghost use Rattle.std.specs.Prelude.{◌≡◌, ◌≤◌, ◌<◌, ◌+◌, [], 
 ghost use Rattle.std.specs.FinMap as map;
 ghost use Rattle.nuc_base.specs.Trees.{WellFormed};
 ghost use Rattle.nuc_flights.specs.Flights.{IsPlanned, IsTaken, StandsAt, flight_of, taken_of, without};
+ghost use Rattle.nuc_replica.specs.Local.{IsLocal};
 ghost use Rattle.nuc_replica.specs.Remote.{Follows};
 ghost use Rattle.nuc_edits.specs.Edits.{Recorded};
 ghost use Rattle.nuc_step.specs.Calls.{FlyAnswers, MayBeTaken, TakeAnswers};
@@ -272,6 +273,7 @@ impl<T: TreeLike> Client<T> {
         };
         self.remote.catch_up(rev);
         let landed = land_commit(&mut self.synced, op);
+        trees_are_sound(&self.local, &self.synced);
         self.flights.finish(number);
         applied_or_stale(landed)
     }
@@ -291,6 +293,7 @@ impl<T: TreeLike> Client<T> {
             unreachable!()
         };
         let landed = land_in_folder(&mut self.local, &mut self.synced, op, outcome, edits);
+        trees_are_sound(&self.local, &self.synced);
         if landed {
             self.counts.changes += 1;
         }
@@ -330,6 +333,14 @@ impl<T: TreeLike> Client<T> {
         self.flights.back();
         self.counts = self.settled_counts;
     }
+}
+
+/// What is always so of the folder's tree and of Synced.
+fn trees_are_sound<T: TreeLike>(local: &Local<T>, synced: &UndoTree<T>)
+    ensures local { IsLocal local.now.now }
+    ensures synced { WellFormed synced.now.now }
+{
+    let _trees = (local.tree(), synced.tree());
 }
 
 fn applied_or_stale(landed: bool) -> DoneReply
