@@ -1,3 +1,4 @@
 pub mod Ends
 pub mod Flying
 pub mod Kept
+mod Landed
