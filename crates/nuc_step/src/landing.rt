@@ -108,9 +108,7 @@ fn can_split<T: TreeLike>(local: &T, op: &Op) -> bool
     requires split { IsTrue (is_split op.now.verb) }
     ensures { MatchBool result ((get (T.nodes local.now) op.now.other.0 ≡ None) × LegalInTurn (T.nodes local.now) (split_changes op.now)) (¬ ((get (T.nodes local.now) op.now.other.0 ≡ None) × LegalInTurn (T.nodes local.now) (split_changes op.now))) }
 {
-    local.get(op.other).is_none()
-        && is_legal_in(local, op.other, &op.local)
-        && can_go(local, op)
+    local.get(op.other).is_none() && is_legal_in(local, op.other, &op.local) && can_go(local, op)
 }
 
 /// Whether the operation's own identity may go once the other, which isn't there, has come.

@@ -1,5 +1,4 @@
-use Rattle.std.proofs.Common.{◌≡◌, false, subst, sym}
-use Rattle.std.proofs.Common.{MatchBool}
+use Rattle.std.proofs.Common.{MatchBool, subst, sym}
 use Rattle.nuc_base.specs.Changes.{changed}
 use Rattle.nuc_base.specs.Legal.{LegalCut}
 use Rattle.nuc_step.specs.Steps.{is_split}
@@ -10,12 +9,11 @@ pub returns-then-is_legal_in : goal.returns-then-is_legal_in
 returns-then-is_legal_in g c =
     let op = c.args.op.now in
     let other = with_other (is_split op.verb) op.id.0 op.other.0 op.local c.requires.may.other c.requires.split in
-    go_together (g.T.TreeLike.nodes c.args.local.now) op.id.0 op.other.0 op.local other c.requires.absent c.is_child_of.result c.if-is_legal_in.ensures c.is_child_of.ensures
+    go_together _ op.id.0 op.other.0 op.local other c.requires.absent c.is_child_of.result c.if-is_legal_in.ensures c.is_child_of.ensures
 
 pub returns-else-is_legal_in : goal.returns-else-is_legal_in
 returns-else-is_legal_in g c =
     let op = c.args.op.now in
-    let m = g.T.TreeLike.nodes c.args.local.now in
     let other = with_other (is_split op.verb) op.id.0 op.other.0 op.local c.requires.may.other c.requires.split in
-    let goes = LegalCut (changed m op.other.0 op.local) op.id.0 in
-    subst (λ b. MatchBool b goes (¬ goes)) (sym c.if-is_legal_in.false) (go_alone m op.id.0 op.other.0 op.local other c.requires.absent c.if-is_legal_in.ensures)
+    let goes = LegalCut (changed (g.T.TreeLike.nodes c.args.local.now) op.other.0 op.local) op.id.0 in
+    subst (λ b. MatchBool b goes (¬ goes)) (sym c.if-is_legal_in.false) (go_alone _ op.id.0 op.other.0 op.local other c.requires.absent c.if-is_legal_in.ensures)
