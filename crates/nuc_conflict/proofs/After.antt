@@ -179,24 +179,22 @@ part_cut m x None y n at = at
 part_cut m x (Some k) y n at = (after_cut m x y n at).1
 
 module _ (same : ℕ → ℕ → Bool) (r l s : Nodes) (next : ℕ) (good : FitBelow r l s next) (op : Op) (facts : SplitFacts same r l s next op) where
-  with_copy : Nodes
+  abbrev with_copy : Nodes
   with_copy = changed l next op.local
 
-  after_l : Nodes
+  abbrev after_l : Nodes
   after_l = changed with_copy op.id.0 Cut
 
-  after_s : Nodes
+  abbrev after_s : Nodes
   after_s = changed s op.id.0 op.synced
 
   less : op.id.0 < next
   less = good.local op.id.0 facts.own facts.there
 
   part : IsPart after_s s
-  unfolding after_s
   part = subst (λ c. IsPart (changed s op.id.0 c) s) (sym (ap (λ (o : Op). o.synced) facts.carried.is)) (part_cut s op.id.0 (get s op.id.0))
 
   own_or_new : (y : ℕ) (n : Node) → get after_l y ≡ Some n → (y ≡ next) ⊎ (get l y ≡ Some n)
-  unfolding after_l with_copy
   own_or_new y n at = elim (same_or_not y next) [
     | inl s ↦ inl s
     | inr apart ↦ inr (sym (get_changed_other l next op.local y apart) ∙ (after_cut with_copy op.id.0 y n at).1)
@@ -209,7 +207,6 @@ module _ (same : ℕ → ℕ → Bool) (r l s : Nodes) (next : ℕ) (good : FitB
   ]
 
   split_keeps : FitBelow r after_l after_s (next + 1)
-  unfolding after_l with_copy after_s
   split_keeps = record {
     fit = record {
       remote = good.fit.remote;
@@ -233,11 +230,10 @@ module _ (same : ℕ → ℕ → Bool) (r l s : Nodes) (next : ℕ) (good : FitB
 -- ADOPTION
 module _ (same : ℕ → ℕ → Bool) (r l s : Nodes) (next : ℕ) (good : FitBelow r l s next) (op : Op) (facts : AdoptionFacts same r l s op)
     (k : Nodes) (comes : ComesFor l op.other.0 op.id.0 op.local k) where
-  node : Node
+  abbrev node : Node
   node = record facts.node { bit = facts.own.bit }
 
   is : IsRenamed l op.other.0 op.id.0 node k
-  unfolding node
   is =
       let named : facts.carried.node ≡ facts.node = one_node r op.id.0 facts.carried.node facts.node facts.carried.there facts.there in
       let owned : facts.carried.own ≡ facts.own = one_node l op.other.0 facts.carried.own facts.own facts.carried.own_there facts.own_there in
@@ -248,7 +244,6 @@ module _ (same : ℕ → ℕ → Bool) (r l s : Nodes) (next : ℕ) (good : FitB
 
   came_kind : (m : Nodes) → OneKind l m → SameKind m op.id.0 facts.node.kind → (w : ℕ) (g h : Node) → Came l op.other.0 op.id.0 node w g
       → get m w ≡ Some h → g.kind ≡ h.kind
-  unfolding node
   came_kind m one kind w g h (renamed e now) at = ap (λ (i : Node). i.kind) now ∙ sym (kind h (subst (λ z. get m z ≡ Some h) e at))
   came_kind m one kind w g h (stood other apart was off) at = one w g h was at
   came_kind m one kind w g h (child i other apart was e now) at = ap (λ (j : Node). j.kind) now ∙ one w i h was at
@@ -262,7 +257,6 @@ module _ (same : ℕ → ℕ → Bool) (r l s : Nodes) (next : ℕ) (good : FitB
   came_below w g (child i other apart was e now) = let under = good.local w i was in omega (arith, under)
 
   adoption_keeps : FitBelow r k s (next + 1)
-  unfolding node
   adoption_keeps = record {
     fit = record {
       remote = good.fit.remote;
