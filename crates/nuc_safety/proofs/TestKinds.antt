@@ -21,6 +21,3 @@ kind_after_put m k x node kind is same before y n at = elim (after_put m x node 
 
 pub kinds_of_empty : (m k : Nodes) → m ≡ empty → OneKind m k
 kinds_of_empty m k none x n h at there = absurd (not_both m x n (subst (λ (t : Nodes). get t x ≡ None) (sym none) (get-empty nat_cmp x)) at)
-
-pub one_kind : (m k : Nodes) (kind : Kind) → AllOfKind m kind → AllOfKind k kind → OneKind m k
-one_kind m k kind first second x n h at there = first x n at ∙ sym (second x h there)
