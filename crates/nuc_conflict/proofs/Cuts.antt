@@ -125,14 +125,14 @@ module _ (same : ℕ → ℕ → Bool) (r l s : Nodes) (st : Stuck same r l s) w
   all_equal x = equal_of x (nobody x)
 
 pub mend_or_equal : MendOrEqual
-mend_or_equal same r l s remote local synced remote_local remote_synced local_synced nothing none x =
+mend_or_equal same r l s fit nothing none x =
     all_equal same r l s (record {
-      remote = remote;
-      local = local;
-      synced = synced;
-      remote_local = remote_local;
-      remote_synced = remote_synced;
-      local_synced = local_synced;
+      remote = fit.remote;
+      local = fit.local;
+      synced = fit.synced;
+      remote_local = fit.remote_local;
+      remote_synced = fit.remote_synced;
+      local_synced = fit.local_synced;
       nothing = nothing;
       none = none;
     }) x

@@ -1,4 +1,5 @@
 pub mod Adoptions
+pub mod After
 pub mod Blockers
 pub mod Calm
 pub mod Cuts

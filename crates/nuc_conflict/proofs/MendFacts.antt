@@ -13,7 +13,8 @@ use Rattle.nuc_class.specs.declared.op.Effect.TheVariants.{Disk, Nothing}
 use Rattle.nuc_class.specs.declared.op.Op.{Op}
 use Rattle.nuc_class.specs.declared.op.Verb.TheVariants as verb
 use Rattle.nuc_class.specs.declared.wishes.Wish.TheVariants as wish
-use Rattle.nuc_conflict.specs.Facts.{EvictionFacts, FactsOf, IsBelow, MendFacts}
+use Rattle.nuc_conflict.specs.Facts.{EvictionFacts, FactsOf, MendFacts}
+use Rattle.nuc_conflict.specs.FitTogether.{IsBelow}
 use Rattle.nuc_conflict.specs.Laws.{MendsHaveFacts}
 use Rattle.nuc_conflict.specs.Mends.{CarriesOut, IsAdoption, IsEviction, IsMend, IsMoveBack, IsRevival, IsSplit, local_mend}
 use Rattle.nuc_conflict.specs.Remedies.{CanAdopt, ClearsDown, ClearsUp, IsBlocker, IsDownRemedy, IsInTheWay, IsRemedy, IsUnblocking, IsUpRemedy, MakesRoom, Unblocks}
@@ -118,5 +119,6 @@ module _ (same : ℕ → ℕ → Bool) (r l s : Nodes) (next : ℕ) (remote : We
   by_remedy remedy (up whole clear rule) carried = by_up rule.x rule.node remedy whole rule.there rule.clears carried
 
 pub mends_have_facts : MendsHaveFacts
-mends_have_facts same r l s next op remote local synced remote_local local_synced below_r below_l below_s mend =
-    by_remedy same r l s next remote local synced remote_local local_synced below_r below_l below_s op mend.remedy mend.chosen mend.done
+mends_have_facts same r l s next op good mend =
+    by_remedy same r l s next good.fit.remote good.fit.local good.fit.synced good.fit.remote_local good.fit.local_synced good.remote good.local good.synced op
+    mend.remedy mend.chosen mend.done

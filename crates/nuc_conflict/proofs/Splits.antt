@@ -19,7 +19,8 @@ use Rattle.nuc_class.specs.declared.op.Effect.TheVariants.{Disk}
 use Rattle.nuc_class.specs.declared.op.Op.{Op}
 use Rattle.nuc_class.specs.declared.op.Verb.TheVariants as verb
 use Rattle.nuc_class.specs.declared.wishes.Wish.TheVariants as wish
-use Rattle.nuc_conflict.specs.Facts.{IsBelow, SplitFacts}
+use Rattle.nuc_conflict.specs.Facts.{SplitFacts}
+use Rattle.nuc_conflict.specs.FitTogether.{IsBelow}
 use Rattle.nuc_conflict.specs.FreeName.{IsFreeName, place_of}
 use Rattle.nuc_conflict.specs.Mends.{IsSplit, cut_of, local_mend}
 use Rattle.nuc_conflict.proofs.Search.{split_there}

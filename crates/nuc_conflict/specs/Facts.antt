@@ -1,6 +1,5 @@
--- What holds of a mend, by its verb: what it rests on, and that its changes are legal. The trees are well formed and agree
--- on kinds, and every identity in them is below `next`.
-use Rattle.std.specs.Prelude.{◌≡◌, ◌≢◌, ◌⊎◌, ◌<◌, ℕ, Bool, None, Some}
+-- What holds of a mend of trees that fit together, by its verb: what it rests on, and that its changes are legal.
+use Rattle.std.specs.Prelude.{◌≡◌, ◌≢◌, ◌⊎◌, ℕ, Bool, None, Some}
 use Rattle.std.specs.FinMap.{get}
 use Rattle.nuc_base.specs.Changes.{changed, IsLegal}
 use Rattle.nuc_base.specs.Legal.{IsFree, LegalCut, LegalPut}
@@ -19,10 +18,6 @@ use Rattle.nuc_class.specs.declared.op.Verb.TheVariants as verb
 use Rattle.nuc_class.specs.declared.wishes.Wish.TheVariants as wish
 use Rattle.nuc_conflict.specs.Mends.{IsAdoption, IsEviction, IsMoveBack, IsRevival, IsSplit}
 use Rattle.nuc_conflict.specs.Remedies.{IsAlike}
-
--- every identity of the tree is below `next`
-abbrev pub IsBelow : Nodes → ℕ → Type 0
-IsBelow m next = (x : ℕ) (n : Node) → get m x ≡ Some n → x < next
 
 -- a file that needs a split: its copy comes to Local under a number that nobody has, and then the file can go in Local and
 -- in Synced

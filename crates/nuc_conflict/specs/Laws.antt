@@ -1,18 +1,20 @@
 -- What follows from the rules.
-use Rattle.std.specs.Prelude.{◌≡◌, ℕ, Bool}
+use Rattle.std.specs.Prelude.{◌≡◌, ◌+◌, ℕ, Bool}
 use Rattle.std.specs.FinMap.{get}
-use Rattle.nuc_base.specs.Trees.{Nodes, OneKind, WellFormed}
+use Rattle.nuc_base.specs.Trees.{Nodes, WellFormed}
 use Rattle.nuc_class.specs.Due.{NothingDue}
 use Rattle.nuc_class.specs.Wishes.{AllEqual}
 use Rattle.nuc_class.specs.declared.op.Op.{Op}
-use Rattle.nuc_conflict.specs.Facts.{IsBelow, MendFacts}
+use Rattle.nuc_conflict.specs.After.{AreAfter}
+use Rattle.nuc_conflict.specs.Facts.{MendFacts}
+use Rattle.nuc_conflict.specs.FitTogether.{FitBelow, FitTogether}
 use Rattle.nuc_conflict.specs.Mends.{IsMend}
 use Rattle.nuc_conflict.specs.Remedies.{NoRemedy}
 
 -- where nothing is due, and no rule applies, each identity has equal values
 abbrev pub MendOrEqual : Type 0
-MendOrEqual = (same : ℕ → ℕ → Bool) (r l s : Nodes) → WellFormed r → WellFormed l → WellFormed s → OneKind r l → OneKind r s → OneKind l s
-    → ((x : ℕ) → NothingDue same r l s x) → NoRemedy same r l s → (x : ℕ) → AllEqual (get r x) (get l x) (get s x)
+MendOrEqual = (same : ℕ → ℕ → Bool) (r l s : Nodes) → FitTogether r l s → ((x : ℕ) → NothingDue same r l s x) → NoRemedy same r l s
+    → (x : ℕ) → AllEqual (get r x) (get l x) (get s x)
 
 -- the trees have one mend
 abbrev pub OneMend : Type 0
@@ -25,5 +27,10 @@ MendOrNone = (same : ℕ → ℕ → Bool) (r l s : Nodes) (next : ℕ) (op : Op
 
 -- what a mend rests on, and that its changes are legal
 abbrev pub MendsHaveFacts : Type 0
-MendsHaveFacts = (same : ℕ → ℕ → Bool) (r l s : Nodes) (next : ℕ) (op : Op) → WellFormed r → WellFormed l → WellFormed s → OneKind r l → OneKind l s
-    → IsBelow r next → IsBelow l next → IsBelow s next → IsMend same r l s next op → MendFacts same r l s next op
+MendsHaveFacts = (same : ℕ → ℕ → Bool) (r l s : Nodes) (next : ℕ) (op : Op) → FitBelow r l s next → IsMend same r l s next op
+    → MendFacts same r l s next op
+
+-- the trees fit together after their mend too, and the only number that it gives out is `next`
+abbrev pub MendsKeepForm : Type 0
+MendsKeepForm = (same : ℕ → ℕ → Bool) (r l s : Nodes) (next : ℕ) (op : Op) (after_r after_l after_s : Nodes) → FitBelow r l s next
+    → IsMend same r l s next op → AreAfter r l s op after_r after_l after_s → FitBelow after_r after_l after_s (next + 1)

@@ -1,4 +1,6 @@
+pub mod After
 pub mod Facts
+pub mod FitTogether
 pub mod FreeName
 pub mod Laws
 pub mod Mends

@@ -1,4 +1,4 @@
-ghost use Rattle.nuc_conflict.specs.Laws.{MendOrEqual, MendOrNone, MendsHaveFacts, OneMend};
+ghost use Rattle.nuc_conflict.specs.Laws.{MendOrEqual, MendOrNone, MendsHaveFacts, MendsKeepForm, OneMend};
 
 /// Where some identity has a wish and no operation is due, a mend applies: no rule applies only where Remote, Local and
 /// Synced are equal.
@@ -20,4 +20,10 @@ pub fn no_mend_without_a_rule()
 /// are legal. An identity has one kind in all trees, and is below `next`.
 pub fn mends_are_legal()
     ensures { MendsHaveFacts }
+{}
+
+/// After a mend the three trees fit together again: each is well formed, and an identity has one kind in all of them. The
+/// next identity is one higher at most.
+pub fn mends_keep_form()
+    ensures { MendsKeepForm }
 {}

@@ -13,6 +13,8 @@ mod rules;
 mod tests;
 mod topmost;
 
-pub use laws::{a_mend_or_equal_trees, mends_are_legal, no_mend_without_a_rule, one_mend};
+pub use laws::{
+    a_mend_or_equal_trees, mends_are_legal, mends_keep_form, no_mend_without_a_rule, one_mend,
+};
 pub use mending::mend;
 pub use naming::free_name;

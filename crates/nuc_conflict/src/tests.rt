@@ -93,13 +93,24 @@ fn is_mend(
     trees: [&[Row]; 3],
     want: Option<Want>,
 ) -> Result<(), Fail> {
+    is_mend_with(rt, alloc, 9, trees, want)
+}
+
+/// The same with another next identity.
+fn is_mend_with(
+    rt: &impl Abort,
+    alloc: Global,
+    next: u64,
+    trees: [&[Row]; 3],
+    want: Option<Want>,
+) -> Result<(), Fail> {
     let [r, l, s] = trees;
     let (r, l, s) = (
         tree(rt, alloc, r)?,
         tree(rt, alloc, l)?,
         tree(rt, alloc, s)?,
     );
-    let found = mend(alloc, &r, &l, &s, &LastDigit, NodeId(9))?;
+    let found = mend(alloc, &r, &l, &s, &LastDigit, NodeId(next))?;
     assert!(rt; is_wanted(found.as_ref(), want));
     Ok(())
 }
@@ -143,6 +154,19 @@ fn evicts_what_has_the_place(rt: HostRuntime) -> Result<(), Fail> {
             ],
         )),
     )
+}
+
+/// The server has deleted a folder and given its place to the file that was in it.
+#[test]
+fn evicts_the_folder_that_a_file_leaves(rt: HostRuntime) -> Result<(), Fail> {
+    let remote = [(2, 0, b"n".as_slice(), 1, false)];
+    let old = [
+        (1, 0, b"n".as_slice(), 0, false),
+        (2, 1, b"c".as_slice(), 1, false),
+    ];
+    let free = Is::Put(0, b"n (conflicted copy)", 0, false);
+    let want = (Verb::Evict, 1, 0, Effect::Disk, [Is::Keep, free, free]);
+    is_mend(&rt, rt.alloc(), [&remote, &old, &old], Some(want))
 }
 
 #[test]
@@ -272,12 +296,8 @@ fn splits_a_file(rt: HostRuntime) -> Result<(), Fail> {
     let s = [(1, 0, b"f".as_slice(), 1, false)];
     let copy = Is::Put(0, b"f (conflicted copy)", 3, true);
     for (s, synced) in [(&s[..], Is::Cut), (&[][..], Is::Keep)] {
-        is_mend(
-            &rt,
-            rt.alloc(),
-            [&r, &l, s],
-            Some((Verb::Split, 1, 9, Effect::Disk, [Is::Keep, copy, synced])),
-        )?;
+        let want = (Verb::Split, 1, 2, Effect::Disk, [Is::Keep, copy, synced]);
+        is_mend_with(&rt, rt.alloc(), 2, [&r, &l, s], Some(want))?;
     }
     Ok(())
 }

@@ -1,3 +1,4 @@
 pub mod Batches
 pub mod Pairs
 pub mod Taking
+mod TestKinds

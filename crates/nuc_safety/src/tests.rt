@@ -29,15 +29,18 @@ impl Hashes for AllDiffer {
 /// An identity, its parent and its name.
 type Row = (u64, u64, &'static [u8]);
 
-fn folder(alloc: Global, parent: u64, name: &[u8]) -> Result<Node, Fail>
-    ensures { IfOk result (λ n. FitsKind n × (n.kind ≡ Kind.Folder)) }
+fn node(alloc: Global, kind: Kind, parent: u64, name: &[u8]) -> Result<Node, Fail>
+    ensures { IfOk result (λ n. FitsKind n × (n.kind ≡ kind)) }
 {
     let name = Name::new(alloc, name)?;
     let parent = NodeId(parent);
     Ok(Node {
         place: Place { parent, name },
-        kind: Kind::Folder,
-        ver: Ver(0),
+        kind,
+        ver: match kind {
+            Kind::Folder => Ver(0),
+            Kind::File => Ver(1),
+        },
         bit: false,
     })
 }
@@ -50,7 +53,7 @@ fn tree(rt: &impl Abort, alloc: Global, rows: &[Row]) -> Result<Tree, Fail>
     let mut tree = Tree::new(alloc);
     for &(id, parent, name) in rows {
         assert!(rt; id > 0);
-        tree.put(NodeId(id), folder(alloc, parent, name)?)?;
+        tree.put(NodeId(id), node(alloc, Kind::Folder, parent, name)?)?;
     }
     Ok(tree)
 }
@@ -82,6 +85,26 @@ fn ids(alloc: Global, ops: &[Op]) -> Result<Vec<u64>, Fail> {
 
 /// Whether just these are due, and the batch takes just those.
 fn takes(
+    alloc: Global,
+    r: &Tree,
+    l: &Tree,
+    s: &Tree,
+    due: &[u64],
+    taken: &[u64],
+) -> Result<bool, Fail>
+    requires remote { WellFormed r.now.nodes }
+    requires local { WellFormed l.now.nodes }
+    requires synced { WellFormed s.now.nodes }
+    requires kinds { OneKind r.now.nodes l.now.nodes }
+{
+    let ops = all_due(alloc, r, l, s, 100)?;
+    let found = ids(alloc, &ops)?;
+    let batch = first_fit(alloc, r, l, s, ops)?;
+    Ok(found.as_slice() == due && ids(alloc, batch.as_slice())?.as_slice() == taken)
+}
+
+/// The same, of trees of folders.
+fn folders_take(
     rt: &impl Abort,
     alloc: Global,
     trees: [&[Row]; 3],
@@ -92,10 +115,7 @@ fn takes(
     let r = tree(rt, alloc, r)?;
     let l = tree(rt, alloc, l)?;
     let s = tree(rt, alloc, s)?;
-    let ops = all_due(alloc, &r, &l, &s, 6)?;
-    let found = ids(alloc, &ops)?;
-    let batch = first_fit(alloc, &r, &l, &s, ops)?;
-    Ok(found.as_slice() == due && ids(alloc, batch.as_slice())?.as_slice() == taken)
+    takes(alloc, &r, &l, &s, due, taken)
 }
 
 const A: Row = (1, 0, b"A");
@@ -106,46 +126,73 @@ const X: Row = (3, 0, b"X");
 
 const Z: Row = (4, 0, b"Z");
 
+const A_IN_X: Row = (1, 3, b"A");
+
+const Y_IN_A: Row = (2, 1, b"Y");
+
+const X_IN_Y: Row = (3, 2, b"X");
+
+const X_IN_Z: Row = (3, 4, b"X");
+
+/// The server has X in Z and A in X, the folder has Y in A, and what was synced is X in Y.
 #[test]
-fn moves_that_would_close_a_cycle(rt: HostRuntime) -> Result<(), Fail> {
-    let synced = [A, Y, (3, 2, b"X".as_slice()), Z];
-    let local = [A, (2, 1, b"Y".as_slice()), X, Z];
-    let remote = [
-        Y,
-        Z,
-        (3, 4, b"X".as_slice()),
-        (1, 3, b"A".as_slice()),
-        (5, 0, b"N".as_slice()),
-    ];
+fn moves_that_would_close_a_ring(rt: HostRuntime) -> Result<(), Fail> {
+    let alloc = rt.alloc();
+    let remote = [Y, Z, X_IN_Z, A_IN_X, (5, 0, b"N".as_slice())];
+    let (local, synced) = ([A, Y_IN_A, X, Z], [A, Y, X_IN_Y, Z]);
     let trees = [&remote[..4], &local, &synced];
-    assert!(rt; takes(&rt, rt.alloc(), trees, &[1, 2, 3], &[1])?);
+    assert!(rt; folders_take(&rt, alloc, trees, &[1, 2, 3], &[1])?);
     // A later one that is together with what was taken is taken too.
     let trees = [&remote[..], &local, &synced];
-    assert!(rt; takes(&rt, rt.alloc(), trees, &[1, 2, 3, 5], &[1, 5])?);
+    assert!(rt; folders_take(&rt, alloc, trees, &[1, 2, 3, 5], &[1, 5])?);
     Ok(())
 }
 
-/// Local has this many files that the other two trees lack.
+/// The same three trees once A is in X everywhere, and then once X is in Z.
+#[test]
+fn moves_go_on_one_by_one(rt: HostRuntime) -> Result<(), Fail> {
+    let alloc = rt.alloc();
+    let remote = [Y, Z, X_IN_Z, A_IN_X];
+    let (local, synced) = ([X, Z, A_IN_X, Y_IN_A], [Y, X_IN_Y, A_IN_X, Z]);
+    assert!(rt; folders_take(&rt, alloc, [&remote, &local, &synced], &[3], &[3])?);
+    let (local, synced) = ([Z, X_IN_Z, A_IN_X, Y_IN_A], [Y, Z, X_IN_Z, A_IN_X]);
+    assert!(rt; folders_take(&rt, alloc, [&remote, &local, &synced], &[2], &[2])?);
+    let same = [Z, X_IN_Z, A_IN_X, Y_IN_A];
+    assert!(rt; folders_take(&rt, alloc, [&same; 3], &[], &[])?);
+    Ok(())
+}
+
+/// The server has deleted a folder and the file in it: the file goes in the folder first.
+#[test]
+fn a_folder_goes_after_its_file(rt: HostRuntime) -> Result<(), Fail> {
+    let alloc = rt.alloc();
+    let remote = Tree::new(alloc);
+    let rows = [(1, 0, b"d".as_slice())];
+    let (mut local, mut synced) = (tree(&rt, alloc, &rows)?, tree(&rt, alloc, &rows)?);
+    local.put(NodeId(2), node(alloc, Kind::File, 1, b"a")?)?;
+    synced.put(NodeId(2), node(alloc, Kind::File, 1, b"a")?)?;
+    assert!(rt; takes(alloc, &remote, &local, &synced, &[2], &[2])?);
+    local.cut(NodeId(2))?;
+    synced.cut(NodeId(2))?;
+    assert!(rt; takes(alloc, &remote, &local, &synced, &[1], &[1])?);
+    Ok(())
+}
+
+/// This many files.
 fn files(alloc: Global, count: u8) -> Result<Tree, Fail>
     requires { count ≤ 60 }
-    ensures { IfOk result (λ tree. WellFormed tree.nodes) }
+    ensures form { IfOk result (λ tree. WellFormed tree.nodes) }
+    ensures files { IfOk result (λ tree. (x : ℕ) (n : _) → get tree.nodes x ≡ Some n → n.kind ≡ Kind.File) }
 {
     let mut tree = Tree::new(alloc);
     for i in 0..count {
-        let node = Node {
-            place: Place {
-                parent: NodeId(0),
-                name: Name::new(alloc, &[b'A' + i])?,
-            },
-            kind: Kind::File,
-            ver: Ver(1 + i as u64),
-            bit: false,
-        };
-        tree.put(NodeId(1 + i as u64), node)?;
+        let file = node(alloc, Kind::File, 0, &[b'A' + i])?;
+        tree.put(NodeId(1 + i as u64), file)?;
     }
     Ok(tree)
 }
 
+/// Of 33 files that only the folder has, a batch takes 32; once the server has these, the next takes the last.
 #[test]
 fn a_batch_is_full_at_32(rt: HostRuntime) -> Result<(), Fail> {
     let alloc = rt.alloc();
@@ -156,6 +203,8 @@ fn a_batch_is_full_at_32(rt: HostRuntime) -> Result<(), Fail> {
     let batch = first_fit(alloc, &empty, &local, &empty, ops)?;
     assert_eq!(rt; batch.len(), 32);
     assert!(rt; batch.get(31).is_some_and(|op| op.id == NodeId(32)));
+    let most = files(alloc, 32)?;
+    assert!(rt; takes(alloc, &most, &local, &most, &[33], &[33])?);
     Ok(())
 }
 
@@ -164,7 +213,7 @@ type Write = (u64, Option<(u64, &'static [u8])>);
 
 fn change(alloc: Global, (_, put): Write) -> Result<Change, Fail> {
     Ok(match put {
-        Some((parent, name)) => Change::Put(folder(alloc, parent, name)?),
+        Some((parent, name)) => Change::Put(node(alloc, Kind::Folder, parent, name)?),
         None => Change::Cut,
     })
 }
