@@ -2,3 +2,4 @@ pub mod Ends
 pub mod Flying
 pub mod Kept
 mod Landed
+pub mod Laying
