@@ -1,3 +1,4 @@
 pub mod Ends
 pub mod Flying
 pub mod Kept
+pub mod Landed

@@ -108,10 +108,18 @@ fn can_split<T: TreeLike>(local: &T, op: &Op) -> bool
     requires split { IsTrue (is_split op.now.verb) }
     ensures { MatchBool result ((get (T.nodes local.now) op.now.other.0 ≡ None) × LegalInTurn (T.nodes local.now) (split_changes op.now)) (¬ ((get (T.nodes local.now) op.now.other.0 ≡ None) × LegalInTurn (T.nodes local.now) (split_changes op.now))) }
 {
-    local.get(op.other).is_none()
-        && is_legal_in(local, op.other, &op.local)
-        && is_legal_in(local, op.id, &Change::Cut)
-        && !is_child_of(&op.local, op.id)
+    local.get(op.other).is_none() && is_legal_in(local, op.other, &op.local) && can_go(local, op)
+}
+
+/// Whether the operation's own identity may go once the other, which isn't there, has come.
+fn can_go<T: TreeLike>(local: &T, op: &Op) -> bool
+    requires form { WellFormed (T.nodes local.now) }
+    requires may { MayFly op.now }
+    requires split { IsTrue (is_split op.now.verb) }
+    requires absent { get (T.nodes local.now) op.now.other.0 ≡ None }
+    ensures { MatchBool result (LegalCut (changed (T.nodes local.now) op.now.other.0 op.now.local) op.now.id.0) (¬ (LegalCut (changed (T.nodes local.now) op.now.other.0 op.now.local) op.now.id.0)) }
+{
+    is_legal_in(local, op.id, &Change::Cut) && !is_child_of(&op.local, op.id)
 }
 
 /// Whether a change puts a node below this identity.
