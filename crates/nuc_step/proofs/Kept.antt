@@ -1,5 +1,5 @@
 -- A client stays what it is, whatever a call makes of its parts.
-use Rattle.std.specs.Prelude.{◌*◌, All, IfSome, IsSomeAnd, MatchBool}
+use Rattle.std.specs.Prelude.{◌*◌, All, IfSome, IsSomeAnd, MatchBool, SomeIff}
 use Rattle.std.proofs.Common.{◌≡◌, ◌≢◌, ◌<◌, ◌≤◌, ◌+◌, ◌++◌, ℕ, zero, suc, Bool, true, false, List, [], ◌∷◌, get_or, length, map, take, drop, Option, None, Some, refl, sym, ◌∙◌, ap, subst, arith}
 use Rattle.std.proofs.lemmas.List.{length-append, length-drop, length-map}
 use Rattle.std.proofs.lemmas.List.Elements.{All-map, All-nil, All-weaker}
@@ -20,14 +20,14 @@ use Rattle.nuc_replica.proofs.Followed.{entry_by_entry, follows_first, follows_r
 use Rattle.nuc_replica.proofs.Heard.{goes_on_heard}
 use Rattle.nuc_step.specs.Calls.{MayBeTaken}
 use Rattle.nuc_step.specs.Client.{ClientState, state_now, state_then}
-use Rattle.nuc_step.specs.Launch.{LaidOver}
+use Rattle.nuc_step.specs.Launch.{IsFresh, LaidOver}
 use Rattle.nuc_step.specs.Sound.{AreLaid, AreNumbered, AreUntaken, CanCount, ChangedOne, ChangedSynced, FitsStage, FitsTaken, HasRoom, IsClient, IsFlight, IsKept, IsLaid, MayFly, known_to}
 use Rattle.nuc_step.specs.Steps.{numbered}
 use Rattle.nuc_step.specs.declared.counts.Counts.{Counts}
 use Rattle.nuc_step.proofs.Flying.{all_numbered, all_staged, all_without, below_next, length_numbered, length_staged, length_without, number_of, numbered_staged, numbered_without, numbers_from, others_without, planned_numbers, flight_in}
 use Rattle.nuc_undo.specs.Laid.{Laid}
 use Rattle.nuc_undo.specs.State.{UndoState, earliest, settled_of}
-use Rattle.nuc_undo.specs.Steps.{KeepsTree}
+use Rattle.nuc_undo.specs.Steps.{Keeps, KeepsTree}
 
 -- THE SERVER'S TREE moves on
 pub entries_keep : (s : RemoteState) (es : List Entry) → IsRemote s → Follows s es → IsRemote (with_entries s es)
@@ -272,13 +272,6 @@ over_beyond next remote ops laid laid_then new new_then over = record {
   fresh = over.fresh;
 }
 
-pub beyond_then : (next : ℕ) (laid laid_then mid mid_then new new_then : Laid)
-    → LaidBeyond next laid laid_then mid mid_then → LaidBeyond next mid mid_then new new_then → LaidBeyond next laid laid_then new new_then
-beyond_then next laid laid_then mid mid_then new new_then first second = record {
-  before_then = λ n below. second.before_then n below ∙ first.before_then n below;
-  fresh = λ n is. second.fresh n (first.fresh n is);
-}
-
 settled_tree : (s t : UndoState) → KeepsTree s t → settled_of t ≡ settled_of s
 settled_tree s t keeps = ap (λ m. earliest m t.past) keeps.now ∙ ap (earliest s.now) keeps.past
 
@@ -305,6 +298,30 @@ kept_laid r l m s t fs c d none local over synced beyond kept =
       count = kept.count;
       count_then = kept.count_then;
     }
+
+keeps_tree : (s t : UndoState) → Keeps s t → KeepsTree s t
+keeps_tree s t keeps = record { now = keeps.now; past = keeps.past; spare = keeps.spare }
+
+pub same_tree : (s : UndoState) → KeepsTree s s
+same_tree s = record { now = refl; past = refl; spare = omega arith }
+
+-- room was made
+pub kept_reserved : (r : RemoteStates) (l m : LocalStates) (s t : UndoState) (fs : FlightsState) (c d : Counts) → fs.now ≡ []
+    → KeepsLocal l m → m.laid ≡ l.laid → m.laid_then ≡ l.laid_then → Keeps s t → IsKept r l s fs c d → IsKept r m t fs c d
+kept_reserved r l m s t fs c d none local laid laid_then synced kept =
+    kept_laid r l m s t fs c d none local (same_beyond c.next_op l.laid l.laid_then m.laid m.laid_then laid laid_then)
+    (keeps_tree s t synced) (same_beyond c.next_op s.laid s.laid_then t.laid t.laid_then synced.laid synced.laid_then) kept
+
+-- what the same lies under now and then may be laid by under
+pub fresh_numbered : (laid laid_then new new_then : Laid) (next : ℕ) (remote : RemoteState) (ops : List Op) → AreUntaken laid laid_then next → new ≡ laid → new_then ≡ laid_then
+    → All (IsFresh new new_then) (numbered next remote ops)
+fresh_numbered laid laid_then new new_then next remote ops untaken same then =
+    All-weaker (λ op. next ≤ op.number) (IsFresh new new_then)
+    (λ op from. ap (λ m. get m op.number) same ∙ untaken op.number from ∙ sym (ap (λ m. get m op.number) then)) (numbered next remote ops) (numbers_from next remote ops)
+
+pub summed : (o : Option ℕ) (P : Type 0) (v w : ℕ) → SomeIff o P v → o ≡ Some w → P × (w ≡ v)
+summed None P v w iff is = cc
+summed (Some x) P v w (holds, value) is = let same : x ≡ w = cc in (holds, sym same ∙ value)
 
 -- OPERATIONS FLY, with all that they need
 pub record ReadyToFly (l : LocalStates) (s : UndoState) (changes next : ℕ) (remote : RemoteState) (ops : List Op) : Type 0 where

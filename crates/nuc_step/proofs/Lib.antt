@@ -1,5 +1,5 @@
 pub mod Ends
 pub mod Flying
 pub mod Kept
-mod Landed
+pub mod Landed
 pub mod Laying

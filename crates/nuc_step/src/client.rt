@@ -340,7 +340,8 @@ fn trees_are_sound<T: TreeLike>(local: &Local<T>, synced: &UndoTree<T>)
     ensures local { IsLocal local.now.now }
     ensures synced { WellFormed synced.now.now }
 {
-    let _trees = (local.tree(), synced.tree());
+    let _local = local.tree();
+    let _synced = synced.tree();
 }
 
 fn applied_or_stale(landed: bool) -> DoneReply
