@@ -15,11 +15,13 @@ use Rattle.nuc_step.specs.declared.reply.ScanReply.TheVariants as scan
 use Rattle.nuc_step.specs.declared.reply.PlanReply.TheVariants as plan
 use Rattle.nuc_step.specs.declared.reply.StartReply.TheVariants as start
 use Rattle.nuc_step.specs.declared.reply.TakeReply.TheVariants as take
+use Rattle.nuc_step.specs.declared.reply.DoneReply.{DoneReply}
 use Rattle.nuc_step.specs.declared.reply.DoneReply.TheVariants as done
 use Rattle.nuc_step.specs.declared.reply.MarkReply.TheVariants as mark
 use Rattle.nuc_step.specs.declared.log.LogEntry.TheVariants.{Stepped}
 use Rattle.nuc_report.specs.Line.{joined, line, escaped}
 use Rattle.nuc_report.specs.Web.{web_reply_words}
+use Rattle.nuc_report.specs.Done.{done_words}
 use Rattle.nuc_report.specs.Entry.{content_words, item_line, event_words, reply_words, reply_lines, entry_text}
 use Rattle.nuc_report.specs.Report.{change_words, edit_line}
 
@@ -60,6 +62,12 @@ web_reply_has_words web.NotEmpty = λ e. cc
 web_reply_has_words web.KindChanged = λ e. cc
 web_reply_has_words web.Memory = λ e. cc
 
+done_has_words : (reply : DoneReply) → done_words reply ≢ []
+done_has_words done.Applied = λ e. cc
+done_has_words done.Stale = λ e. cc
+done_has_words (done.Dropped reason) = λ e. cc
+done_has_words done.NoSuchOp = λ e. cc
+
 reply_has_words : (reply : Reply) → reply_words reply ≢ []
 reply_has_words (reply.User answer) = λ e. cc
 reply_has_words (reply.Web answer) = web_reply_has_words answer
@@ -70,7 +78,7 @@ reply_has_words (reply.Plan plan.Empty) = λ e. cc
 reply_has_words (reply.Plan (plan.Batch ops)) = λ e. cc
 reply_has_words (reply.Started (start.Ok bytes)) = λ e. cc
 reply_has_words (reply.Took (take.Accepted revision)) = λ e. cc
-reply_has_words (reply.Done done.Applied) = λ e. cc
+reply_has_words (reply.Done answer) = done_has_words answer
 reply_has_words (reply.Marked mark.Quiet) = λ e. cc
 
 -- the line of a step, written in its three parts

@@ -19,13 +19,13 @@ use Rattle.nuc_step.specs.declared.reply.ScanReply.TheVariants as scan
 use Rattle.nuc_step.specs.declared.reply.PlanReply.TheVariants as plan
 use Rattle.nuc_step.specs.declared.reply.StartReply.TheVariants as start
 use Rattle.nuc_step.specs.declared.reply.TakeReply.TheVariants as take
-use Rattle.nuc_step.specs.declared.reply.DoneReply.TheVariants as done
 use Rattle.nuc_step.specs.declared.reply.MarkReply.TheVariants as mark
 use Rattle.nuc_step.specs.declared.log.LogEntry.{LogEntry}
 use Rattle.nuc_step.specs.declared.log.LogEntry.TheVariants.{Opened, Stepped}
 use Rattle.nuc_report.specs.Line.{line, escaped}
 use Rattle.nuc_report.specs.Words.{path_word, filling_word}
 use Rattle.nuc_report.specs.Web.{web_words, web_reply_words}
+use Rattle.nuc_report.specs.Done.{done_words}
 
 -- kind, size and hash; a folder has no bytes
 abbrev pub content_words : Option ContentData → List (List ℕ)
@@ -81,7 +81,7 @@ reply_words (reply.Plan plan.Empty) = codes "empty" ∷ []
 reply_words (reply.Plan (plan.Batch ops)) = codes "batch" ∷ decimal (length ops) ∷ []
 reply_words (reply.Started (start.Ok bytes)) = codes "ok" ∷ []
 reply_words (reply.Took (take.Accepted revision)) = codes "accepted" ∷ decimal revision ∷ []
-reply_words (reply.Done done.Applied) = codes "applied" ∷ []
+reply_words (reply.Done answer) = done_words answer
 reply_words (reply.Marked mark.Quiet) = codes "quiet" ∷ []
 
 -- what stands below an answer: the items of a listing, the operations of a batch

@@ -4,14 +4,13 @@ ghost use Rattle.nuc_report.specs.Line.{joined};
 ghost use Rattle.nuc_report.specs.Entry.{content_words, item_line, op_line, edit_words, event_words, reply_words, reply_lines, entry_text, user_word, verb_word};
 ghost use Rattle.std.specs.List.{flat_map};
 
+use crate::done::done_text;
 use crate::web::{web_reply_text, web_text};
 use crate::words::{escaped, filling_word, path_word};
 use nuc_class::{Op, Verb};
 use nuc_folder::{Item, UserEdit, UserReply};
 use nuc_hash::{Content, hash_text};
-use nuc_step::{
-    DoneReply, Event, LogEntry, MarkReply, PlanReply, Reply, ScanReply, StartReply, TakeReply,
-};
+use nuc_step::{Event, LogEntry, MarkReply, PlanReply, Reply, ScanReply, StartReply, TakeReply};
 use std::alloc::{AllocError, Global};
 
 /// What an entry of the log prints: its line, and below it the items that were listed or the operations that were planned.
@@ -136,7 +135,7 @@ fn reply_text(alloc: Global, reply: &Reply) -> Result<String, AllocError>
         }
         Reply::Started(StartReply::Ok { .. }) => String::from_str(alloc, "ok"),
         Reply::Took(TakeReply::Accepted(revision)) => format!(in alloc; "accepted {revision}"),
-        Reply::Done(DoneReply::Applied) => String::from_str(alloc, "applied"),
+        Reply::Done(answer) => done_text(alloc, answer),
         Reply::Marked(MarkReply::Quiet) => String::from_str(alloc, "quiet"),
     }
 }

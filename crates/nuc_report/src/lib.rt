@@ -1,6 +1,7 @@
 //! What a run prints: a line for each step, then what server and client hold, a summary and the status.
 #![tactic(auto)]
 
+mod done;
 mod entry;
 mod state;
 mod status;

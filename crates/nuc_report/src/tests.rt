@@ -1,6 +1,7 @@
 ghost use Rattle.std.specs.Prelude.{IfOk};
 ghost use Rattle.nuc_base.specs.Kinds.{FitsKind};
 
+mod done;
 mod entries;
 mod outputs;
 mod web;
