@@ -43,10 +43,12 @@ fn an_operation_is_planned_started_taken_and_done(rt: HostRuntime) -> Result<(),
     fly(alloc, &mut flights, &[7])?;
     assert!(rt; flies(&flights, 7) && !flies(&flights, 8));
     assert!(rt; !flights.finish(7) && !flights.take(7, Taken::Accepted(1)));
+    assert!(rt; !flights.is_started(7));
     assert!(rt; !flights.start(8) && flights.start(7) && !flights.start(7));
+    assert!(rt; flights.is_started(7) && !flights.is_started(8));
     assert!(rt; flights.taken(7).is_none());
     assert!(rt; flights.take(7, Taken::Accepted(3)));
-    assert!(rt; flights.taken(7) == Some(Taken::Accepted(3)));
+    assert!(rt; flights.taken(7) == Some(Taken::Accepted(3)) && !flights.is_started(7));
     assert!(rt; flights.finish(7) && !flies(&flights, 7) && !flights.finish(7));
     Ok(())
 }
