@@ -1,10 +1,10 @@
 -- Two that are made one: Local stays well formed.
-use Rattle.std.proofs.Common.{◌≡◌, ◌≢◌, ◌<◌, ℕ, Bool, Option, None, Some, List, refl, sym, ap, subst, ◌∙◌, arith}
+use Rattle.std.proofs.Common.{◌≡◌, ◌<◌, ℕ, Bool, Some, List, refl, sym, ap, subst, ◌∙◌, arith}
 use Rattle.std.specs.FinMap.{get}
 use Rattle.nuc_base.specs.Kinds.{Fits, FitsKind}
 use Rattle.nuc_base.specs.Legal.{IsFree}
 use Rattle.nuc_base.specs.SamePlace.{SamePlace, same_place-refl}
-use Rattle.nuc_base.specs.Trees.{Nodes, StandsAt, WellFormed}
+use Rattle.nuc_base.specs.Trees.{Nodes, WellFormed}
 use Rattle.nuc_base.specs.declared.change.Change.TheVariants.{Keep, Put}
 use Rattle.nuc_base.specs.declared.node.Kind.{Kind}
 use Rattle.nuc_base.specs.declared.node.Kind.TheVariants.{Folder, File}
@@ -13,10 +13,9 @@ use Rattle.nuc_base.specs.declared.node.Place.{Place}
 use Rattle.nuc_base.proofs.Maps.{one_node, not_both}
 use Rattle.nuc_base.proofs.Renamed.{renamed_keeps}
 use Rattle.nuc_class.specs.declared.op.Effect.TheVariants.{Nothing}
-use Rattle.nuc_class.specs.declared.op.Op.{Op}
 use Rattle.nuc_class.specs.declared.op.Verb.TheVariants as verb
 use Rattle.nuc_conflict.specs.Facts.{AdoptionFacts}
-use Rattle.nuc_conflict.specs.Mends.{IsAdoption, local_mend}
+use Rattle.nuc_conflict.specs.Mends.{local_mend}
 use Rattle.nuc_conflict.specs.Remedies.{CanAdopt, IsAlike}
 
 pub one_place : (p q : Place) → p.parent.0 ≡ q.parent.0 → p.name ≡ q.name → p ≡ q

@@ -1,10 +1,10 @@
 -- Three trees fit together after a mend.
-use Rattle.std.proofs.Common.{◌≡◌, ◌≢◌, ◌⊎◌, ◌<◌, ◌+◌, ℕ, Bool, Option, None, Some, refl, sym, ap, subst, ◌∙◌, inl, inr, arith}
+use Rattle.std.proofs.Common.{◌≡◌, ◌⊎◌, ◌<◌, ◌+◌, ℕ, Bool, Option, None, Some, refl, sym, ap, subst, ◌∙◌, inl, inr, arith}
 use Rattle.std.specs.FinMap.{get}
 use Rattle.nuc_base.specs.Changes.{changed}
 use Rattle.nuc_base.specs.Legal.{SameKind}
 use Rattle.nuc_base.specs.Renamed.{IsRenamed}
-use Rattle.nuc_base.specs.Trees.{Nodes, OneKind, StandsAt, WellFormed}
+use Rattle.nuc_base.specs.Trees.{Nodes, OneKind}
 use Rattle.nuc_base.specs.declared.change.Change.{Change}
 use Rattle.nuc_base.specs.declared.change.Change.TheVariants.{Keep, Put, Cut}
 use Rattle.nuc_base.specs.declared.node.Kind.{Kind}
@@ -18,9 +18,9 @@ use Rattle.nuc_class.specs.Due.{FitsOp, IsLegalOp}
 use Rattle.nuc_class.specs.declared.op.Op.{Op}
 use Rattle.nuc_class.specs.declared.op.Verb.{Verb}
 use Rattle.nuc_class.specs.declared.op.Verb.TheVariants as verb
-use Rattle.nuc_conflict.specs.After.{AreAfter, ComesFor, IsLocalAfter}
+use Rattle.nuc_conflict.specs.After.{ComesFor, IsLocalAfter}
 use Rattle.nuc_conflict.specs.Facts.{AdoptionFacts, EvictionFacts, FactsOf, MoveBackFacts, RevivalFacts, SplitFacts}
-use Rattle.nuc_conflict.specs.FitTogether.{FitBelow, FitTogether, IsBelow}
+use Rattle.nuc_conflict.specs.FitTogether.{FitBelow, IsBelow}
 use Rattle.nuc_conflict.specs.Laws.{MendsKeepForm}
 use Rattle.nuc_conflict.specs.Mends.{LeavesFor, cut_of}
 use Rattle.nuc_conflict.proofs.Adoptions.{above_root}

@@ -1,15 +1,13 @@
 -- The walk from a folder up to the root, and what on it is astray.
-use Rattle.std.proofs.Common.{◌≡◌, ◌≢◌, ◌⊎◌, ◌≤◌, ◌+◌, ℕ, suc, Option, Some, None, MatchOption, refl, sym, ap, subst, ◌∙◌, inl, inr, arith}
-use Rattle.std.specs.FinMap.{get, len}
-use Rattle.nuc_base.specs.Trees.{Nodes, Alike, IsFolder, IsThere, IsUnder, Steps, WellFormed}
+use Rattle.std.proofs.Common.{◌≡◌, ◌≢◌, ◌⊎◌, ℕ, Option, Some, None, MatchOption, refl, sym, ap, subst, ◌∙◌, inl, inr}
+use Rattle.std.specs.FinMap.{get}
+use Rattle.nuc_base.specs.Trees.{Nodes, Alike, IsUnder, Steps, WellFormed}
 use Rattle.nuc_base.specs.Trees.Under.{here, up}
 use Rattle.nuc_base.specs.Trees.Steps.{done, step}
 use Rattle.nuc_base.specs.declared.node.Node.{Node}
 use Rattle.nuc_base.specs.declared.node.NodeId.{NodeId}
 use Rattle.nuc_base.proofs.Alike.{under_alike}
-use Rattle.nuc_base.proofs.Chains.{next_step, no_step, short_chain, under_trans}
-use Rattle.nuc_base.proofs.Depths.{no_loop, folder_above}
-use Rattle.nuc_base.proofs.Forms.{folder_rooted}
+use Rattle.nuc_base.proofs.Depths.{no_loop}
 use Rattle.nuc_base.proofs.Maps.{one_node, not_both, same_or_not}
 use Rattle.nuc_conflict.specs.Remedies.{IsAstray, IsBlocker}
 use Rattle.nuc_conflict.specs.Walk.{IsHighestSoFar, IsHighest}

@@ -1,5 +1,5 @@
 -- What stands in Remote and wishes neither Down nor a split: Synced has it so.
-use Rattle.std.proofs.Common.{◌≡◌, ◌≢◌, ℕ, Bool, Option, None, Some, refl, sym, subst, ◌∙◌}
+use Rattle.std.proofs.Common.{◌≡◌, ℕ, Bool, Option, None, Some, refl, sym, subst, ◌∙◌}
 use Rattle.std.specs.FinMap.{get}
 use Rattle.nuc_base.specs.Trees.{Nodes, IsUnder, WellFormed}
 use Rattle.nuc_base.specs.declared.node.Node.{Node}

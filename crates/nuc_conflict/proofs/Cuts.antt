@@ -1,12 +1,10 @@
 -- Where nothing is due and no rule applies, nobody has a wish.
-use Rattle.std.proofs.Common.{◌≡◌, ◌≢◌, ◌⊎◌, ℕ, Bool, Option, None, Some, refl, sym, ap, subst, ◌∙◌, inl, inr}
+use Rattle.std.proofs.Common.{◌≡◌, ◌≢◌, ◌⊎◌, ℕ, Bool, None, Some, refl, sym, ap, subst, ◌∙◌, inl, inr}
 use Rattle.std.specs.FinMap.{get}
-use Rattle.nuc_base.specs.Legal.{LegalCut}
-use Rattle.nuc_base.specs.Trees.{Nodes, IsFolder, IsThere, NoChild, WellFormed}
+use Rattle.nuc_base.specs.Trees.{Nodes, IsThere, NoChild, WellFormed}
 use Rattle.nuc_base.specs.declared.node.Node.{Node}
 use Rattle.nuc_base.proofs.Maps.{one_node, not_both}
 use Rattle.nuc_base.proofs.Search.{no_lowest}
-use Rattle.nuc_class.specs.Going.{GoingLocal, GoingRemote}
 use Rattle.nuc_class.specs.Wishes.{AllEqual, IsWish}
 use Rattle.nuc_class.specs.declared.wishes.Wish.{Wish}
 use Rattle.nuc_class.specs.declared.wishes.Wish.TheVariants as wish

@@ -1,26 +1,25 @@
 -- Where nothing is due and no rule applies, nobody wishes Down.
-use Rattle.std.proofs.Common.{◌≡◌, ◌≢◌, ◌⊎◌, ℕ, Bool, Option, None, Some, refl, sym, ap, subst, ◌∙◌, inl, inr}
+use Rattle.std.proofs.Common.{◌≡◌, ◌⊎◌, ℕ, Bool, Option, None, Some, refl, sym, ap, subst, ◌∙◌, inl, inr}
 use Rattle.std.proofs.lemmas.Option.{same_Some}
 use Rattle.std.specs.FinMap.{get}
 use Rattle.nuc_base.specs.Legal.{IsFree, LegalPut}
 use Rattle.nuc_base.specs.SamePlace.{SamePlace, same_place-refl}
-use Rattle.nuc_base.specs.Trees.{Nodes, Above, Alike, IsFolder, IsThere, IsUnder, OneKind, Precedes, WellFormed}
-use Rattle.nuc_base.specs.Trees.Under.{here, up}
+use Rattle.nuc_base.specs.Trees.{Nodes, IsFolder, IsUnder, WellFormed}
+use Rattle.nuc_base.specs.Trees.Under.{here}
 use Rattle.nuc_base.specs.declared.node.Kind.TheVariants.{Folder}
 use Rattle.nuc_base.specs.declared.node.Node.{Node}
 use Rattle.nuc_base.specs.declared.node.Place.{Place}
 use Rattle.nuc_base.proofs.Alike.{legal_alike}
-use Rattle.nuc_base.proofs.Depths.{above_first}
-use Rattle.nuc_base.proofs.Maps.{one_node, not_both}
+use Rattle.nuc_base.proofs.Maps.{one_node}
 use Rattle.nuc_base.proofs.Search.{no_first}
-use Rattle.nuc_class.specs.Going.{GoingLocal, GoingRemote, Stays}
+use Rattle.nuc_class.specs.Going.{GoingRemote, Stays}
 use Rattle.nuc_class.specs.Merge.{target}
-use Rattle.nuc_class.specs.Wishes.{IsWish, WantsUp, OnlySynced}
+use Rattle.nuc_class.specs.Wishes.{IsWish}
 use Rattle.nuc_class.specs.declared.wishes.Wish.{Wish}
 use Rattle.nuc_class.specs.declared.wishes.Wish.TheVariants as wish
 use Rattle.nuc_class.proofs.Decided.{stays_or_not}
 use Rattle.nuc_class.proofs.Rows.{one_wish, some_wish}
-use Rattle.nuc_class.proofs.Walk.{kept_parts, going-kept, going-child}
+use Rattle.nuc_class.proofs.Walk.{going-child}
 use Rattle.nuc_conflict.specs.Remedies.{IsClearDown}
 use Rattle.nuc_conflict.specs.Topmost.{IsTopmost}
 use Rattle.nuc_conflict.proofs.Calm.{Calm, above_synced, calm_above}

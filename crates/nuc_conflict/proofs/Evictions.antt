@@ -1,9 +1,9 @@
 -- An eviction is legal, and leaves alone the tree in which another keeps the place.
-use Rattle.std.proofs.Common.{◌≡◌, ◌≢◌, ◌⊎◌, ℕ, Bool, Option, None, Some, List, refl, sym, ap, subst, ◌∙◌, inl, inr}
+use Rattle.std.proofs.Common.{◌≡◌, ◌≢◌, ◌⊎◌, ℕ, Bool, Option, None, Some, List, refl, sym, ap, subst, inl, inr}
 use Rattle.std.specs.FinMap.{get}
 use Rattle.nuc_base.specs.Changes.{IsLegal, FitsChange}
 use Rattle.nuc_base.specs.Legal.{LegalPut}
-use Rattle.nuc_base.specs.SamePlace.{SamePlace, same_place-sym, same_place-trans}
+use Rattle.nuc_base.specs.SamePlace.{SamePlace}
 use Rattle.nuc_base.specs.Trees.{Nodes, IsFolder, IsUnder, IsVacant, StandsAt, WellFormed}
 use Rattle.nuc_base.specs.declared.change.Change.{Change}
 use Rattle.nuc_base.specs.declared.change.Change.TheVariants.{Keep, Put, Cut}
@@ -13,9 +13,7 @@ use Rattle.nuc_base.proofs.Depths.{no_loop}
 use Rattle.nuc_base.proofs.Maps.{one_node}
 use Rattle.nuc_base.proofs.Places.{one_holder}
 use Rattle.nuc_class.specs.Due.{FitsOp, IsLegalOp}
-use Rattle.nuc_class.specs.Wishes.{IsWish}
 use Rattle.nuc_class.specs.declared.op.Op.{Op}
-use Rattle.nuc_class.specs.declared.wishes.Wish.TheVariants as wish
 use Rattle.nuc_conflict.specs.Facts.{EvictionFacts}
 use Rattle.nuc_conflict.specs.FreeName.{place_of}
 use Rattle.nuc_conflict.specs.Mends.{IsEviction, LeavesFor}

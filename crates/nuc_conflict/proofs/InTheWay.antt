@@ -1,6 +1,5 @@
 -- What the three rules give, from what stands in the way.
-use Rattle.std.proofs.Common.{◌≡◌, ◌≢◌, ℕ, Bool, Option, Some, None, MatchOption, IfSome, refl, sym, ap, subst, ◌∙◌, inl, inr}
-use Rattle.std.specs.Prelude.{IfOk}
+use Rattle.std.proofs.Common.{◌≡◌, ◌≢◌, ℕ, Bool, Option, Some, None, MatchOption, IfSome, subst}
 use Rattle.std.specs.FinMap.{get}
 use Rattle.nuc_base.specs.Legal.{IsFree}
 use Rattle.nuc_base.specs.Trees.{Nodes, IsThere, IsVacant, StandsAt, WellFormed}
@@ -14,7 +13,7 @@ use Rattle.nuc_conflict.specs.Remedies.{ClearsDown, ClearsUp, IsClearDown, IsCle
 use Rattle.nuc_conflict.specs.Search.{IsTopmostThere}
 use Rattle.nuc_conflict.specs.Topmost.{IsTopmost}
 use Rattle.nuc_conflict.specs.declared.remedy.Remedy.{Remedy}
-use Rattle.nuc_conflict.proofs.Search.{down_there, up_there, one_topmost, topmost_down, topmost_up}
+use Rattle.nuc_conflict.proofs.Search.{one_topmost, topmost_down, topmost_up}
 
 -- who has a place, but for x
 pub in_the_way_of : (m : Nodes) (x : ℕ) (p : Place) (found other : Option NodeId) → WellFormed m

@@ -1,23 +1,22 @@
 -- What holds of every mend.
-use Rattle.std.proofs.Common.{◌≡◌, ◌≢◌, ◌⊎◌, ℕ, Bool, Option, None, Some, refl, sym, ap, subst, ◌∙◌, inl, inr}
+use Rattle.std.proofs.Common.{◌≡◌, ◌≢◌, ◌⊎◌, ℕ, Bool, None, Some, sym, ap, subst, ◌∙◌, inl, inr}
 use Rattle.std.specs.FinMap.{get}
 use Rattle.nuc_base.specs.Legal.{IsFree}
 use Rattle.nuc_base.specs.SamePlace.{SamePlace, same_place-refl}
-use Rattle.nuc_base.specs.Trees.{Nodes, IsThere, OneKind, StandsAt, WellFormed}
+use Rattle.nuc_base.specs.Trees.{Nodes, OneKind, StandsAt, WellFormed}
 use Rattle.nuc_base.specs.declared.change.Change.TheVariants.{Keep, Put}
 use Rattle.nuc_base.specs.declared.node.Node.{Node}
-use Rattle.nuc_base.specs.declared.node.NodeId.{NodeId}
 use Rattle.nuc_base.specs.declared.node.Place.{Place}
 use Rattle.nuc_base.proofs.Maps.{one_node}
-use Rattle.nuc_class.specs.declared.op.Effect.TheVariants.{Disk, Nothing}
+use Rattle.nuc_class.specs.declared.op.Effect.TheVariants.{Disk}
 use Rattle.nuc_class.specs.declared.op.Op.{Op}
 use Rattle.nuc_class.specs.declared.op.Verb.TheVariants as verb
 use Rattle.nuc_class.specs.declared.wishes.Wish.TheVariants as wish
 use Rattle.nuc_conflict.specs.Facts.{EvictionFacts, FactsOf, MendFacts}
 use Rattle.nuc_conflict.specs.FitTogether.{IsBelow}
 use Rattle.nuc_conflict.specs.Laws.{MendsHaveFacts}
-use Rattle.nuc_conflict.specs.Mends.{CarriesOut, IsAdoption, IsEviction, IsMend, IsMoveBack, IsRevival, IsSplit, local_mend}
-use Rattle.nuc_conflict.specs.Remedies.{CanAdopt, ClearsDown, ClearsUp, IsBlocker, IsDownRemedy, IsInTheWay, IsRemedy, IsUnblocking, IsUpRemedy, MakesRoom, Unblocks}
+use Rattle.nuc_conflict.specs.Mends.{CarriesOut, IsAdoption, IsEviction, IsMoveBack, IsRevival, IsSplit, local_mend}
+use Rattle.nuc_conflict.specs.Remedies.{CanAdopt, ClearsDown, ClearsUp, IsBlocker, IsInTheWay, IsRemedy, MakesRoom, Unblocks}
 use Rattle.nuc_conflict.specs.Remedies.ClearsDown.{in_synced, in_local, below}
 use Rattle.nuc_conflict.specs.Remedies.ClearsUp.{in_remote, in_synced as up_in_synced}
 use Rattle.nuc_conflict.specs.Remedies.IsRemedy.{split, down, up}

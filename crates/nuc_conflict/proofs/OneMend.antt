@@ -1,10 +1,9 @@
 -- The three trees have one mend.
-use Rattle.std.proofs.Common.{◌≡◌, ◌≢◌, ◌<◌, ℕ, Bool, List, Option, None, Some, refl, sym, ap, subst, ◌∙◌, inl, inr, arith}
+use Rattle.std.proofs.Common.{◌≡◌, ℕ, Bool, List, Option, None, Some, refl, sym, ap, subst, ◌∙◌, inl, inr, arith}
 use Rattle.std.proofs.lemmas.Bool.{cases_lt}
 use Rattle.std.specs.FinMap.{get}
 use Rattle.nuc_base.specs.Candidates.{candidate}
-use Rattle.nuc_base.specs.SamePlace.{SamePlace}
-use Rattle.nuc_base.specs.Trees.{Nodes, WellFormed}
+use Rattle.nuc_base.specs.Trees.{Nodes}
 use Rattle.nuc_base.specs.declared.change.Change.{Change}
 use Rattle.nuc_base.specs.declared.change.Change.TheVariants.{Keep, Put, Cut}
 use Rattle.nuc_base.specs.declared.node.Node.{Node}
@@ -16,7 +15,7 @@ use Rattle.nuc_class.specs.declared.op.Op.{Op}
 use Rattle.nuc_class.specs.declared.op.Verb.TheVariants as verb
 use Rattle.nuc_conflict.specs.FreeName.{IsFreeName, IsUnused, place_of}
 use Rattle.nuc_conflict.specs.Laws.{MendOrNone, OneMend}
-use Rattle.nuc_conflict.specs.Mends.{CarriesOut, IsAdoption, IsEviction, IsMend, IsMoveBack, IsRevival, IsSplit, LeavesFor, cut_of, local_mend}
+use Rattle.nuc_conflict.specs.Mends.{CarriesOut, IsAdoption, IsEviction, IsMoveBack, IsRevival, IsSplit, LeavesFor, cut_of, local_mend}
 use Rattle.nuc_conflict.specs.declared.remedy.Remedy.{Remedy}
 use Rattle.nuc_conflict.specs.declared.remedy.Remedy.TheVariants.{Split, Evict, Adopt, Revive, Unmove}
 use Rattle.nuc_conflict.proofs.OneRemedy.{not_none, one_remedy}

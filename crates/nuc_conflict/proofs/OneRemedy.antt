@@ -1,8 +1,8 @@
 -- The rules give one remedy.
-use Rattle.std.proofs.Common.{◌≡◌, ◌≢◌, ◌⊎◌, ◌≤◌, ℕ, Bool, Option, None, Some, refl, sym, ap, subst, ◌∙◌, inl, inr, arith}
+use Rattle.std.proofs.Common.{◌≡◌, ◌⊎◌, ℕ, Bool, Some, refl, sym, ap, subst, ◌∙◌, inl, inr, arith}
 use Rattle.std.specs.FinMap.{get}
 use Rattle.nuc_base.specs.Legal.{IsFree}
-use Rattle.nuc_base.specs.Trees.{Nodes, Alike, IsThere, IsUnder, StandsAt, WellFormed}
+use Rattle.nuc_base.specs.Trees.{Nodes, Alike, IsUnder, WellFormed}
 use Rattle.nuc_base.specs.Trees.Under.{here, up}
 use Rattle.nuc_base.specs.declared.node.Node.{Node}
 use Rattle.nuc_base.specs.declared.node.NodeId.{NodeId}
@@ -10,14 +10,13 @@ use Rattle.nuc_base.specs.declared.node.Place.{Place}
 use Rattle.nuc_base.proofs.Maps.{one_node, not_both}
 use Rattle.nuc_base.proofs.Places.{one_holder}
 use Rattle.nuc_class.specs.declared.wishes.Wish.TheVariants as wish
-use Rattle.nuc_conflict.specs.Remedies.{CanAdopt, ClearsDown, ClearsUp, IsAstray, IsBlocker, IsClearDown, IsClearUp, IsDownClear, IsDownRemedy, IsInTheWay, IsRemedy, IsUnblocking, IsUpRemedy, MakesRoom, NoRemedy, Unblocks}
+use Rattle.nuc_conflict.specs.Remedies.{ClearsDown, ClearsUp, IsAstray, IsBlocker, IsClearDown, IsClearUp, IsDownClear, IsDownRemedy, IsInTheWay, IsRemedy, IsUpRemedy, MakesRoom, NoRemedy, Unblocks}
 use Rattle.nuc_conflict.specs.Remedies.ClearsDown.{in_synced, in_local, below}
 use Rattle.nuc_conflict.specs.Remedies.ClearsUp.{in_remote, in_synced as up_in_synced}
 use Rattle.nuc_conflict.specs.Remedies.IsRemedy.{split as first_rule, down as second_rule, up as third_rule}
-use Rattle.nuc_conflict.specs.Topmost.{IsLeastSplit, IsTopmost, NoSplit}
 use Rattle.nuc_conflict.specs.declared.remedy.Remedy.{Remedy}
 use Rattle.nuc_conflict.specs.declared.remedy.Remedy.TheVariants.{Split, Evict, Adopt, Revive, Unmove}
-use Rattle.nuc_conflict.proofs.Search.{down_there, one_topmost, up_there}
+use Rattle.nuc_conflict.proofs.Search.{one_topmost}
 
 one_id : (a b : NodeId) → a.0 ≡ b.0 → a ≡ b
 one_id a b e = ap (λ (x : ℕ). let z : NodeId = record { 0 = x } in z) e

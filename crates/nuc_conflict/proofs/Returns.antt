@@ -1,25 +1,23 @@
 -- A folder that comes back to where Remote has it, or moves there, may do so.
-use Rattle.std.proofs.Common.{◌≡◌, ◌≢◌, ℕ, Bool, true, false, Option, None, Some, List, refl, sym, ap, subst, ◌∙◌, inl, inr}
+use Rattle.std.proofs.Common.{◌≡◌, ℕ, Bool, false, None, Some, refl, sym, ap, subst, ◌∙◌, inl, inr}
 use Rattle.std.specs.FinMap.{get}
 use Rattle.nuc_base.specs.Kinds.{Fits, FitsKind}
 use Rattle.nuc_base.specs.Legal.{IsFree, LegalPut}
 use Rattle.nuc_base.specs.SamePlace.{SamePlace, same_place-refl}
-use Rattle.nuc_base.specs.Trees.{Nodes, Above, IsFolder, IsUnder, OneKind, WellFormed}
+use Rattle.nuc_base.specs.Trees.{Nodes, OneKind, WellFormed}
 use Rattle.nuc_base.specs.declared.change.Change.TheVariants.{Keep, Put}
 use Rattle.nuc_base.specs.declared.node.Kind.{Kind}
-use Rattle.nuc_base.specs.declared.node.Kind.TheVariants.{Folder, File}
+use Rattle.nuc_base.specs.declared.node.Kind.TheVariants.{Folder}
 use Rattle.nuc_base.specs.declared.node.Node.{Node}
 use Rattle.nuc_base.specs.declared.node.Place.{Place}
-use Rattle.nuc_base.specs.declared.node.Ver.{Ver}
 use Rattle.nuc_base.proofs.Alike.{legal_alike}
 use Rattle.nuc_base.proofs.Depths.{above_in}
 use Rattle.nuc_base.proofs.Maps.{one_node, not_both}
 use Rattle.nuc_class.specs.declared.op.Effect.TheVariants.{Disk}
-use Rattle.nuc_class.specs.declared.op.Op.{Op}
 use Rattle.nuc_class.specs.declared.op.Verb.TheVariants as verb
 use Rattle.nuc_class.specs.declared.wishes.Wish.TheVariants as wish
 use Rattle.nuc_conflict.specs.Facts.{RevivalFacts, MoveBackFacts}
-use Rattle.nuc_conflict.specs.Mends.{IsMoveBack, IsRevival, local_mend}
+use Rattle.nuc_conflict.specs.Mends.{local_mend}
 use Rattle.nuc_conflict.specs.Remedies.{IsAstray, IsBlocker}
 use Rattle.nuc_conflict.specs.Topmost.{NoSplit, IsTopmost}
 use Rattle.nuc_conflict.proofs.Calm.{above_synced}

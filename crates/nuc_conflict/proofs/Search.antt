@@ -1,14 +1,13 @@
 -- The least that needs a split, and the topmost with a wish, found by going through a tree.
-use Rattle.std.proofs.Common.{◌≡◌, ◌≢◌, ◌⊎◌, ◌<◌, ◌≤◌, ◌+◌, ℕ, suc, Bool, Option, Some, None, MatchOption, IfSome, refl, sym, ap, subst, ◌∙◌, inl, inr, arith}
+use Rattle.std.proofs.Common.{◌≡◌, ◌<◌, ◌≤◌, ◌+◌, ℕ, Bool, Option, Some, None, IfSome, refl, sym, subst, ◌∙◌, inl, inr, arith}
 use Rattle.std.specs.Prelude.{slice_get, IsTrue, IsSomeAnd}
 use Rattle.std.proofs.lemmas.Bool.{cases_lt}
 use Rattle.std.proofs.lemmas.Option.{same_Some}
 use Rattle.std.specs.FinMap.{get, keys, len}
 use Rattle.nuc_base.specs.Trees.{Nodes, IsThere, Precedes, Steps, WellFormed}
 use Rattle.nuc_base.specs.declared.node.Node.{Node}
-use Rattle.nuc_base.specs.declared.node.NodeId.{NodeId}
 use Rattle.nuc_base.proofs.Depths.{depth_of, one_depth}
-use Rattle.nuc_base.proofs.Maps.{same_or_not, not_both}
+use Rattle.nuc_base.proofs.Maps.{same_or_not}
 use Rattle.nuc_base.proofs.Order.{nth_of, nth_there, nth_rises, nth_within}
 use Rattle.nuc_class.specs.Split.{needs_split}
 use Rattle.nuc_class.specs.Wishes.{IsWish, WantsDown, WantsUp}

@@ -2,12 +2,11 @@
 use Rattle.std.proofs.Common.{rules, ◌≡◌, ◌≢◌, ◌<◌, ℕ, Bool, Option, None, Some, List, refl, sym, ap, subst, ◌∙◌, inl, inr, arith}
 use Rattle.std.specs.Prelude.{IsTrue}
 use Rattle.std.specs.FinMap.{get, insert}
-use Rattle.nuc_base.specs.Changes.{changed, IsLegal, FitsChange}
+use Rattle.nuc_base.specs.Changes.{IsLegal, FitsChange}
 use Rattle.nuc_base.specs.Legal.{LegalPut, LegalCut}
-use Rattle.nuc_base.specs.Trees.{Nodes, IsFolder, IsUnder, NoChild, OneKind, WellFormed}
+use Rattle.nuc_base.specs.Trees.{Nodes, IsUnder, NoChild, OneKind, WellFormed}
 use Rattle.nuc_base.specs.Trees.Under.{here}
 use Rattle.nuc_base.specs.declared.change.Change.TheVariants.{Put}
-use Rattle.nuc_base.specs.declared.node.Kind.{Kind}
 use Rattle.nuc_base.specs.declared.node.Kind.TheVariants.{Folder, File}
 use Rattle.nuc_base.specs.declared.node.Node.{Node}
 use Rattle.nuc_base.proofs.Alike.{under_absent}
@@ -16,13 +15,12 @@ use Rattle.nuc_base.proofs.Maps.{after_put, get_put_other, one_node, not_both}
 use Rattle.nuc_class.specs.Split.{needs_split}
 use Rattle.nuc_class.specs.Wishes.{IsWish}
 use Rattle.nuc_class.specs.declared.op.Effect.TheVariants.{Disk}
-use Rattle.nuc_class.specs.declared.op.Op.{Op}
 use Rattle.nuc_class.specs.declared.op.Verb.TheVariants as verb
 use Rattle.nuc_class.specs.declared.wishes.Wish.TheVariants as wish
 use Rattle.nuc_conflict.specs.Facts.{SplitFacts}
 use Rattle.nuc_conflict.specs.FitTogether.{IsBelow}
 use Rattle.nuc_conflict.specs.FreeName.{IsFreeName, place_of}
-use Rattle.nuc_conflict.specs.Mends.{IsSplit, cut_of, local_mend}
+use Rattle.nuc_conflict.specs.Mends.{cut_of, local_mend}
 use Rattle.nuc_conflict.proofs.Search.{split_there}
 
 pub absent_next : (m : Nodes) (next : ℕ) → IsBelow m next → get m next ≡ None

@@ -1,7 +1,6 @@
 -- Trees in which nothing is due and no rule applies, and what an operation would be that is due.
-use Rattle.std.proofs.Common.{◌≡◌, ◌≢◌, ℕ, Bool, Option, None, Some, refl, sym, subst}
+use Rattle.std.proofs.Common.{◌≡◌, ℕ, Bool, Some, refl, sym, subst}
 use Rattle.std.specs.FinMap.{get}
-use Rattle.nuc_base.specs.Changes.{IsLegal}
 use Rattle.nuc_base.specs.Legal.{LegalPut, LegalCut}
 use Rattle.nuc_base.specs.Trees.{Nodes, OneKind, WellFormed}
 use Rattle.nuc_base.specs.declared.node.Node.{Node}
@@ -9,7 +8,6 @@ use Rattle.nuc_class.specs.Due.{NothingDue}
 use Rattle.nuc_class.specs.Merge.{target}
 use Rattle.nuc_class.specs.Op.{operation}
 use Rattle.nuc_class.specs.Wishes.{IsWish}
-use Rattle.nuc_class.specs.declared.wishes.Wish.{Wish}
 use Rattle.nuc_class.specs.declared.wishes.Wish.TheVariants as wish
 use Rattle.nuc_conflict.specs.Remedies.{NoRemedy}
 

@@ -1,6 +1,5 @@
 -- Where a Down puts a node in Local.
-use Rattle.std.proofs.Common.{◌≡◌, ◌≢◌, Bool, true, false, cond, Option, None, Some, refl, ap, ◌∙◌}
-use Rattle.std.proofs.lemmas.Bool.Decides.{not_from_Decides}
+use Rattle.std.proofs.Common.{◌≡◌, ◌≢◌, Bool, true, false, cond, Option, None, Some, refl, ap}
 use Rattle.nuc_base.specs.declared.node.Node.{Node}
 use Rattle.nuc_base.specs.declared.node.Place.{Place}
 use Rattle.nuc_class.specs.Equal.{place_eq}

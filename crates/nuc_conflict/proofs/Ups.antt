@@ -1,16 +1,16 @@
 -- Where nothing is due and no rule applies, nobody wishes Up.
-use Rattle.std.proofs.Common.{◌≡◌, ◌≢◌, ◌⊎◌, ℕ, Bool, Option, None, Some, refl, sym, ap, subst, ◌∙◌, inl, inr}
+use Rattle.std.proofs.Common.{◌≡◌, ℕ, Bool, Option, None, Some, refl, sym, subst, ◌∙◌}
 use Rattle.std.specs.FinMap.{get}
-use Rattle.nuc_base.specs.Legal.{IsFree, LegalPut}
+use Rattle.nuc_base.specs.Legal.{LegalPut}
 use Rattle.nuc_base.specs.SamePlace.{same_place-refl}
 use Rattle.nuc_base.specs.Trees.{Nodes, IsUnder}
 use Rattle.nuc_base.specs.Trees.Under.{here, up}
 use Rattle.nuc_base.specs.declared.node.Node.{Node}
 use Rattle.nuc_base.proofs.Alike.{legal_alike, one_kind-sym}
 use Rattle.nuc_base.proofs.Depths.{above_first}
-use Rattle.nuc_base.proofs.Maps.{one_node, not_both}
+use Rattle.nuc_base.proofs.Maps.{not_both}
 use Rattle.nuc_base.proofs.Search.{no_first}
-use Rattle.nuc_class.specs.Going.{GoingLocal, GoingRemote, Leaves}
+use Rattle.nuc_class.specs.Going.{GoingLocal, Leaves}
 use Rattle.nuc_class.specs.Wishes.{IsWish}
 use Rattle.nuc_class.specs.declared.wishes.Wish.{Wish}
 use Rattle.nuc_class.specs.declared.wishes.Wish.TheVariants as wish

@@ -2,7 +2,7 @@
 use Rattle.std.specs.Prelude.{◌≡◌, ◌≢◌, ◌⊎◌, ℕ, Bool, None, Some}
 use Rattle.std.specs.FinMap.{get}
 use Rattle.nuc_base.specs.Changes.{changed, IsLegal}
-use Rattle.nuc_base.specs.Legal.{IsFree, LegalCut, LegalPut}
+use Rattle.nuc_base.specs.Legal.{IsFree, LegalCut}
 use Rattle.nuc_base.specs.Renamed.{IsRenamed}
 use Rattle.nuc_base.specs.SamePlace.{SamePlace}
 use Rattle.nuc_base.specs.Trees.{Nodes, StandsAt, WellFormed}

@@ -1,8 +1,8 @@
 -- Two operations that are together.
-use Rattle.std.proofs.Common.{◌≡◌, ◌<◌, ℕ, sym, subst}
+use Rattle.std.proofs.Common.{◌<◌, ℕ, sym, subst}
 use Rattle.std.specs.Prelude.{Bool}
 use Rattle.std.specs.FinMap.{get}
-use Rattle.nuc_base.specs.Changes.{changed, IsLegal}
+use Rattle.nuc_base.specs.Changes.{changed}
 use Rattle.nuc_base.specs.Trees.{Nodes, OneKind, WellFormed}
 use Rattle.nuc_base.proofs.Commute.{apart-sym, legal_after}
 use Rattle.nuc_class.specs.Due.{IsDue}

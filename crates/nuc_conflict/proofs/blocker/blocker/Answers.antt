@@ -1,10 +1,9 @@
-use Rattle.std.proofs.Common.{◌≡◌, ◌≢◌, ◌≤◌, ◌+◌, ℕ, Some, None, arith, sym, subst, ap, rules, ◌∙◌, inl, inr}
+use Rattle.std.proofs.Common.{◌≡◌, Some, None, arith, sym, subst}
 use Rattle.std.specs.FinMap as map
-use Rattle.nuc_base.specs.Trees.{IsUnder, Steps}
 use Rattle.nuc_base.specs.Trees.Under.{here, up}
 use Rattle.nuc_base.proofs.Chains.{next_step, no_step, short_chain, under_trans}
 use Rattle.nuc_base.proofs.Forms.{folder_rooted}
-use Rattle.nuc_conflict.proofs.Blockers.{ended, node_below_root, step_up, walk_ended}
+use Rattle.nuc_conflict.proofs.Blockers.{node_below_root, step_up, walk_ended}
 use Rattle.nuc_conflict.proofs.blocker.blocker.Goals as goal
 
 pub loop-init : goal.loop-init

@@ -1,6 +1,4 @@
-use Rattle.std.proofs.Common.{◌≡◌, ◌<◌, ◌≤◌, ◌+◌, ◌^◌, ℕ, arith, subst, sym, rules}
-use Rattle.nuc_base.specs.Candidates.{candidate}
-use Rattle.nuc_conflict.specs.FreeName.{IsUnused, place_of}
+use Rattle.std.proofs.Common.{◌+◌, arith}
 use Rattle.nuc_conflict.proofs.FreeNames.{one_unused, still_taken}
 use Rattle.nuc_conflict.proofs.naming.free_name.Goals as goal
 

@@ -1,4 +1,3 @@
-use Rattle.std.proofs.Common.{◌≡◌, ◌<◌, Some, None, arith, sym, subst, rules, ◌∙◌}
 use Rattle.nuc_base.proofs.Order.{nth_there}
 use Rattle.nuc_conflict.proofs.Search.{topmost_passed, topmost_kept, topmost_new}
 use Rattle.nuc_conflict.proofs.topmost.consider.Goals as goal

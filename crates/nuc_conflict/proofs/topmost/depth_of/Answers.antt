@@ -1,9 +1,8 @@
-use Rattle.std.proofs.Common.{◌≡◌, ◌≢◌, ◌≤◌, ◌+◌, ℕ, Some, None, arith, sym, subst, ap, rules, ◌∙◌}
+use Rattle.std.proofs.Common.{◌≡◌, Some, arith, sym, subst, rules}
 use Rattle.std.specs.FinMap as map
 use Rattle.nuc_base.specs.Trees.{Steps}
 use Rattle.nuc_base.proofs.Chains.{next_step}
 use Rattle.nuc_base.proofs.Depths.{depth_of}
-use Rattle.nuc_base.proofs.Maps.{not_both}
 use Rattle.nuc_conflict.proofs.Blockers.{ended, node_below_root}
 use Rattle.nuc_conflict.proofs.topmost.depth_of.Goals as goal
 

@@ -1,9 +1,8 @@
-use Rattle.std.proofs.Common.{◌≡◌, ◌<◌, Some, arith, sym, subst, rules, ◌∙◌}
+use Rattle.std.proofs.Common.{◌≡◌, sym, subst, rules}
 use Rattle.std.specs.FinMap as map
-use Rattle.nuc_base.proofs.Order.{nth_within}
 use Rattle.nuc_class.specs.Wishes.{IsWish}
 use Rattle.nuc_class.specs.declared.wishes.Wish.TheVariants as wish
-use Rattle.nuc_conflict.proofs.Search.{NoneBefore, least_split, no_split, one_more, past_end}
+use Rattle.nuc_conflict.proofs.Search.{NoneBefore, least_split, no_split, past_end}
 use Rattle.nuc_conflict.proofs.topmost.least_split.Goals as goal
 
 pub returns-in_default : goal.returns-in_default

@@ -1,6 +1,4 @@
-use Rattle.std.proofs.Common.{◌≡◌, ◌<◌, Some, None, arith, sym, subst, rules, ◌∙◌}
-use Rattle.std.specs.FinMap as map
-use Rattle.nuc_conflict.specs.Search.{IsTopmostSoFar}
+use Rattle.std.proofs.Common.{sym, rules}
 use Rattle.nuc_conflict.proofs.Search.{topmost_found, none_found, past_end}
 use Rattle.nuc_conflict.proofs.topmost.topmost.Goals as goal
 
