@@ -3,3 +3,4 @@ pub mod Flying
 pub mod Kept
 mod Landed
 pub mod Laying
+mod Written
