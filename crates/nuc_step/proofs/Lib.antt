@@ -1,6 +1,8 @@
 pub mod Ends
 pub mod Flying
+mod Keyed
 pub mod Kept
 mod Landed
 pub mod Laying
+mod Outcomes
 mod Written

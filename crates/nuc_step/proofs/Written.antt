@@ -15,7 +15,8 @@ use Rattle.nuc_step.specs.Laws.{DoneWritesOnce, OneEnd, Writes, WritesLocal, Wri
 use Rattle.nuc_step.specs.Steps.{Ends, EndsAt, EndsOf, NothingToEnd, caught_up_to, finished, is_split, landed, local_changes, reason_of, split_changes}
 use Rattle.nuc_step.specs.declared.reason.Reason.{Reason}
 use Rattle.nuc_step.specs.declared.reply.DoneReply.{DoneReply}
-use Rattle.nuc_step.specs.declared.reply.DoneReply.TheVariants as done
+use Rattle.nuc_step.proofs.Outcomes.{Came, came_of}
+use Rattle.nuc_step.proofs.Outcomes.Came.{applied, dropped, nothing}
 
 -- ONE END
 module _ (c d b : ClientState) (e f g : Recorded) where
@@ -65,37 +66,14 @@ landed_writes n op (came.Refused why) c = finished_writes n op (came.Refused why
 same_writes : (op : Op) (c : ClientState) → Writes op c c
 same_writes op c = record { remote = inl refl; local = local_stays (is_split op.verb) op c.local.tree; synced = (Keep, refl) }
 
-module _ (n : ℕ) (op : Op) (c d : ClientState) (e f : Recorded) where
-  ends_write : (t : Taken) (why : Option Reason) (r : DoneReply) → Ends n op t why c e r d f → Writes op c d
-  ends_write t None done.Applied ends = subst (Writes op c) (sym ends.1) (landed_writes n op t c)
-  ends_write t None done.Stale ends = subst (Writes op c) (sym ends.1) (finished_writes n op t c)
-  ends_write t None (done.Dropped w) ends = absurd ends
-  ends_write t None done.NoSuchOp ends = absurd ends
-  ends_write t (Some why) done.Applied ends = absurd ends
-  ends_write t (Some why) done.Stale ends = absurd ends
-  ends_write t (Some why) (done.Dropped w) ends = subst (Writes op c) (sym ends.1) (finished_writes n op t c)
-  ends_write t (Some why) done.NoSuchOp ends = absurd ends
+nothing_writes : (c d : ClientState) (o : Option Flight) → d ≡ c → WritesOf o c d
+nothing_writes c d None same = same
+nothing_writes c d (Some flight) same = subst (Writes flight.op c) (sym same) (same_writes flight.op c)
 
-  nothing_writes : (r : DoneReply) → NothingToEnd c e r d f → Writes op c d
-  nothing_writes done.Applied ends = absurd ends
-  nothing_writes done.Stale ends = absurd ends
-  nothing_writes (done.Dropped w) ends = absurd ends
-  nothing_writes done.NoSuchOp ends = subst (Writes op c) (sym ends.0) (same_writes op c)
-
-  stage_writes : (stage : Stage) (r : DoneReply) → EndsAt n op stage c e r d f → Writes op c d
-  stage_writes planned r ends = nothing_writes r ends
-  stage_writes started r ends = nothing_writes r ends
-  stage_writes (taken t) r ends = ends_write t (reason_of t) r ends
-
-none_written : (c d : ClientState) (e f : Recorded) (r : DoneReply) → NothingToEnd c e r d f → d ≡ c
-none_written c d e f done.Applied ends = absurd ends
-none_written c d e f done.Stale ends = absurd ends
-none_written c d e f (done.Dropped w) ends = absurd ends
-none_written c d e f done.NoSuchOp ends = ends.0
-
-flight_writes : (n : ℕ) (o : Option Flight) (c d : ClientState) (e f : Recorded) (r : DoneReply) → EndsOf n o c e r d f → WritesOf o c d
-flight_writes n None c d e f r ends = none_written c d e f r ends
-flight_writes n (Some flight) c d e f r ends = stage_writes n flight.op c d e f flight.stage r ends
+writes_of : (n : ℕ) (c d : ClientState) (o : Option Flight) → Came n c d o → WritesOf o c d
+writes_of n c d o (nothing p same) = nothing_writes c d p same
+writes_of n c d o (dropped flight t stage is) = subst (Writes flight.op c) (sym is) (finished_writes n flight.op t c)
+writes_of n c d o (applied flight t stage why can is) = subst (Writes flight.op c) (sym is) (landed_writes n flight.op t c)
 
 pub writes_once : DoneWritesOnce
-writes_once n c d e f r ends = flight_writes n (flight_of n c.flights) c d e f r ends
+writes_once n c d e f r ends = writes_of n c d (flight_of n c.flights) (came_of n c d e f r ends)

@@ -17,7 +17,6 @@ use Rattle.nuc_step.specs.Client.{ClientState}
 use Rattle.nuc_step.specs.Sound.{IsClient, MayFly}
 use Rattle.nuc_step.specs.Steps.{IsDone, after_fly, after_pull, after_restart, after_start, after_take, is_split}
 use Rattle.nuc_step.specs.declared.reply.DoneReply.{DoneReply}
-use Rattle.nuc_step.specs.declared.reply.DoneReply.TheVariants as done
 
 -- a Done ends in one way
 abbrev pub OneEnd : Type 0
@@ -56,8 +55,8 @@ StayingKeepsKey = (n : ℕ) (c d : ClientState) (e f : Recorded) (r : DoneReply)
 
 -- an operation that puts a node where one is, as a move does, leaves the key as it was
 abbrev pub MoveKeepsKey : Type 0
-MoveKeepsKey = (n : ℕ) (c d : ClientState) (e f : Recorded) (flight : Flight) (before after : Node) → flight_of n c.flights ≡ Some flight
-    → is_split flight.op.verb ≡ false → flight.op.local ≡ Put after → get c.local.tree flight.op.id.0 ≡ Some before → IsDone n c e done.Applied d f
+MoveKeepsKey = (n : ℕ) (c d : ClientState) (e f : Recorded) (r : DoneReply) (flight : Flight) (before after : Node) → flight_of n c.flights ≡ Some flight
+    → is_split flight.op.verb ≡ false → flight.op.local ≡ Put after → get c.local.tree flight.op.id.0 ≡ Some before → IsDone n c e r d f
     → get d.local.keys flight.op.id.0 ≡ get c.local.keys flight.op.id.0
 
 -- each step keeps a client
