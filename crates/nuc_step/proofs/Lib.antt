@@ -4,5 +4,7 @@ mod Keyed
 pub mod Kept
 mod Landed
 pub mod Laying
+mod LocalAfter
 mod Outcomes
+mod Steady
 mod Written
