@@ -1,5 +1,5 @@
 -- What stays in the folder keeps its key.
-use Rattle.std.proofs.Common.{◌≡◌, ◌≢◌, ◌∙◌, ℕ, Bool, true, false, cond, List, [], ◌∷◌, Option, None, Some, refl, sym, ap, subst, inl, inr, rules}
+use Rattle.std.proofs.Common.{◌≡◌, ◌≢◌, ◌∙◌, ℕ, Bool, true, false, cond, [], ◌∷◌, Option, None, Some, refl, sym, subst, inl, inr}
 use Rattle.std.specs.FinMap.{get}
 use Rattle.nuc_base.specs.Changes.{changed}
 use Rattle.nuc_base.specs.Ready.{all_changed}
@@ -7,11 +7,9 @@ use Rattle.nuc_base.specs.Trees.{Nodes}
 use Rattle.nuc_base.specs.declared.change.Change.{Change}
 use Rattle.nuc_base.specs.declared.change.Change.TheVariants.{Keep, Put, Cut}
 use Rattle.nuc_base.specs.declared.node.Node.{Node}
-use Rattle.nuc_base.proofs.Changed.{get_changed_other}
 use Rattle.nuc_base.proofs.Maps.{after_cut, get_cut_same, get_put_same, not_both, same_or_not}
 use Rattle.nuc_class.specs.declared.op.Op.{Op}
-use Rattle.nuc_edits.specs.Edits.{Recorded}
-use Rattle.nuc_flights.specs.Flights.{Flight, Stage, flight_of, planned, started, taken}
+use Rattle.nuc_flights.specs.Flights.{Flight, flight_of}
 use Rattle.nuc_flights.specs.declared.taken.Taken.{Taken}
 use Rattle.nuc_flights.specs.declared.taken.Taken.TheVariants as came
 use Rattle.nuc_folder.specs.declared.outcome.Outcome.{Outcome}
@@ -21,7 +19,7 @@ use Rattle.nuc_observe.specs.Keys.{KeyMap}
 use Rattle.nuc_replica.specs.Local.{LocalState, moved_key}
 use Rattle.nuc_step.specs.Client.{ClientState}
 use Rattle.nuc_step.specs.Laws.{MoveKeepsKey, StayingKeepsKey}
-use Rattle.nuc_step.specs.Steps.{CanLand, Ends, EndsAt, EndsOf, LocalReady, NothingToEnd, OtherIsNew, finished, is_split, keys_after, keys_with, landed, local_after, local_changes, reason_of, split_changes}
+use Rattle.nuc_step.specs.Steps.{CanLand, OtherIsNew, finished, is_split, keys_with, landed, local_changes, split_changes}
 use Rattle.nuc_step.proofs.Outcomes.{Came, came_of}
 use Rattle.nuc_step.proofs.Outcomes.Came.{applied, dropped, nothing}
 

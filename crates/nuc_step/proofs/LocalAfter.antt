@@ -18,8 +18,8 @@ use Rattle.nuc_folder.specs.declared.outcome.Outcome.TheVariants as outcome
 use Rattle.nuc_lookup.proofs.Maps as numbers
 use Rattle.nuc_observe.specs.Keys.{AreKeys, IsUnheld, KeyMap}
 use Rattle.nuc_replica.specs.Local.{HasKey, HaveKeys, IsLocal, LocalState, moved_key}
-use Rattle.nuc_step.specs.Sound.{FitsOutcome, HasOther, IsPut, MayFly, makes, makes_new}
-use Rattle.nuc_step.specs.Steps.{KeyIsFree, LocalReady, is_split, keys_after, keys_with, local_after, split_changes}
+use Rattle.nuc_step.specs.Sound.{FitsOutcome, HasOther, MayFly, makes, makes_new}
+use Rattle.nuc_step.specs.Steps.{KeyIsFree, LocalReady, is_split, keys_with, local_after, split_changes}
 
 -- KEYS ARE KEYS
 key_comes : (ks : KeyMap) (x k : ℕ) → AreKeys ks → 0 < x → 0 < k → IsUnheld ks k → AreKeys (insert ks x k)
@@ -27,7 +27,7 @@ key_comes ks x k are some key free =
     let other : (y : ℕ) → y ≢ x → get (insert ks x k) y ≡ get ks y = λ y apart. numbers.get_put_other ks x k y apart in
     let here : get (insert ks x k) x ≡ Some k = numbers.get_put_same ks x k in
     let held : (y j : ℕ) → y ≡ x → get (insert ks x k) y ≡ Some j → j ≡ k =
-        λ y j same at. numbers.one_number (get (insert ks x k) x) j k (subst (λ z. get (insert ks x k) z ≡ Some j) same at) here in
+    λ y j same at. numbers.one_number (get (insert ks x k) x) j k (subst (λ z. get (insert ks x k) z ≡ Some j) same at) here in
     record {
       no_root = other 0 (λ same. absurd (omega (arith, same, some))) ∙ are.no_root;
       no_zero = λ y at. elim (same_or_not y x) [
@@ -144,7 +144,7 @@ module _ (op : Op) (o : Outcome) (l : LocalState) (is : IsLocal l) (may : MayFly
   keys_sound : (split : Bool) → HasOther split op.id.0 op.other.0 op.local → FitsMade (makes split op.old_local op.local) o → is_success o ≡ true
       → get l.tree op.id.0 ≡ op.old_local → KeyIsFree l.keys o → LegalInTurn l.tree (cond split (split_changes op) ((op.id.0, op.local) ∷ []))
       → Sound l.tree l.keys is.keys is.follow (all_changed l.tree (cond split (split_changes op) ((op.id.0, op.local) ∷ [])))
-          (cond split (moved_key l.keys op.id.0 op.other.0 (get l.keys op.id.0)) (keys_with op.old_local op.local o op.id.0 l.keys))
+      (cond split (moved_key l.keys op.id.0 op.other.0 (get l.keys op.id.0)) (keys_with op.old_local op.local o op.id.0 l.keys))
   keys_sound true other fits success old free legal = split_sound l.tree l.keys is.keys is.follow op.id.0 op.other.0 op.local may.id other legal.1.0
   keys_sound false other fits success old free legal = one_sound l.tree l.keys is.keys is.follow op.id.0 op.old_local op.local o may.id old fits free success
 

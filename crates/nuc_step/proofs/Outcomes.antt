@@ -1,6 +1,5 @@
 -- What a client can be after a Done.
 use Rattle.std.proofs.Common.{◌≡◌, ℕ, Option, None, Some, refl}
-use Rattle.nuc_class.specs.declared.op.Op.{Op}
 use Rattle.nuc_edits.specs.Edits.{Recorded}
 use Rattle.nuc_flights.specs.Flights.{Flight, Stage, flight_of, planned, started, taken}
 use Rattle.nuc_flights.specs.declared.taken.Taken.{Taken}

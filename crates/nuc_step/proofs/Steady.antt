@@ -1,11 +1,10 @@
 -- Each step keeps a client.
 use Rattle.std.specs.Prelude.{All, IfSome}
-use Rattle.std.proofs.Common.{◌≡◌, ◌≤◌, ◌<◌, ◌+◌, ◌++◌, ℕ, Bool, true, false, cond, List, [], ◌∷◌, length, map, Option, None, Some, refl, sym, subst, arith}
-use Rattle.std.proofs.lemmas.List.Elements.{All-append, All-head, All-map, All-nil, All-tail, All-weaker}
+use Rattle.std.proofs.Common.{◌≡◌, ◌≤◌, ◌<◌, ◌+◌, ◌++◌, ℕ, true, false, cond, List, [], ◌∷◌, length, map, Option, None, Some, refl, sym, subst, arith}
+use Rattle.std.proofs.lemmas.List.Elements.{All-append, All-map, All-nil, All-weaker}
 use Rattle.nuc_base.proofs.Changed.{tree_after}
 use Rattle.nuc_class.specs.declared.op.Op.{Op}
-use Rattle.nuc_edits.specs.Edits.{Recorded}
-use Rattle.nuc_flights.specs.Flights.{Flight, Stage, as_planned, flight_of, planned, staged, started, taken, without}
+use Rattle.nuc_flights.specs.Flights.{Flight, Stage, as_planned, flight_of, staged, started, taken, without}
 use Rattle.nuc_flights.specs.declared.taken.Taken.{Taken}
 use Rattle.nuc_flights.specs.declared.taken.Taken.TheVariants as came
 use Rattle.nuc_folder.specs.Outcome.{is_success}
@@ -14,12 +13,11 @@ use Rattle.nuc_journal.specs.declared.entry.Entry.{Entry}
 use Rattle.nuc_replica.specs.Remote.{Follows, IsRemote, RemoteState, forgotten, heard, with_entries}
 use Rattle.nuc_step.specs.Calls.{MayBeTaken}
 use Rattle.nuc_step.specs.Client.{ClientState}
-use Rattle.nuc_step.specs.Laws.{StepsKeep, StepsKeepClients}
+use Rattle.nuc_step.specs.Laws.{StepsKeepClients}
 use Rattle.nuc_step.specs.Sound.{AreNumbered, FitsStage, FitsTaken, IsClient, IsFlight, MayFly, known_to}
-use Rattle.nuc_step.specs.Steps.{CanLand, IsDone, after_fly, after_pull, after_restart, after_start, after_take, caught_up_to, finished, landed, numbered, reason_of}
+use Rattle.nuc_step.specs.Steps.{CanLand, after_fly, after_pull, after_restart, caught_up_to, finished, landed, numbered, reason_of}
 use Rattle.nuc_step.specs.declared.reason.Reason.TheVariants as reason
-use Rattle.nuc_step.specs.declared.reply.DoneReply.{DoneReply}
-use Rattle.nuc_step.proofs.Flying.{all_staged, all_without, below_next, flight_in, numbered_staged, numbered_without, numbers_from, planned_numbers}
+use Rattle.nuc_step.proofs.Flying.{all_staged, all_without, flight_in, numbered_staged, numbered_without, numbers_from, planned_numbers}
 use Rattle.nuc_step.proofs.Kept.{caught_up_keeps, entries_keep, heard_keeps, known_entries, known_heard, later_flight, later_taken, may_numbered, news_known}
 use Rattle.nuc_step.proofs.LocalAfter.{local_sound}
 use Rattle.nuc_step.proofs.Outcomes.{Came, came_of}
@@ -39,9 +37,9 @@ fly_keeps : (c : ClientState) → IsClient c → (ops : List Op) → All MayFly 
 fly_keeps c is ops may =
     let numbers = numbered c.next_op c.remote ops in
     let fly : All (IsFlight (known_to c.remote)) (map as_planned numbers) = All-map (IsFlight (known_to c.remote)) as_planned numbers
-        (All-weaker MayFly (λ op. IsFlight (known_to c.remote) (as_planned op)) (λ op may. record { op = may; stage = tt }) numbers (may_numbered c.next_op c.remote ops may)) in
+    (All-weaker MayFly (λ op. IsFlight (known_to c.remote) (as_planned op)) (λ op may. record { op = may; stage = tt }) numbers (may_numbered c.next_op c.remote ops may)) in
     let from : All (λ f. c.next_op ≤ f.op.number) (map as_planned numbers) =
-        All-map (λ f. c.next_op ≤ f.op.number) as_planned numbers (numbers_from c.next_op c.remote ops) in
+    All-map (λ f. c.next_op ≤ f.op.number) as_planned numbers (numbers_from c.next_op c.remote ops) in
     record {
       remote = is.remote;
       local = is.local;

@@ -1,5 +1,5 @@
 -- A Done ends in one way, and writes little.
-use Rattle.std.proofs.Common.{◌≡◌, ◌∙◌, ℕ, Bool, true, false, cond, List, [], ◌∷◌, Option, None, Some, refl, sym, subst, inl, inr, rules}
+use Rattle.std.proofs.Common.{◌≡◌, ℕ, Bool, true, false, cond, [], ◌∷◌, Option, None, Some, refl, sym, subst, inl, inr, rules}
 use Rattle.nuc_base.specs.Changes.{changed}
 use Rattle.nuc_base.specs.Ready.{all_changed}
 use Rattle.nuc_base.specs.Trees.{Nodes}
@@ -12,7 +12,7 @@ use Rattle.nuc_flights.specs.declared.taken.Taken.TheVariants as came
 use Rattle.nuc_replica.specs.Remote.{RemoteState}
 use Rattle.nuc_step.specs.Client.{ClientState}
 use Rattle.nuc_step.specs.Laws.{DoneWritesOnce, OneEnd, Writes, WritesLocal, WritesOf, WritesRemote}
-use Rattle.nuc_step.specs.Steps.{Ends, EndsAt, EndsOf, NothingToEnd, caught_up_to, finished, is_split, landed, local_changes, reason_of, split_changes}
+use Rattle.nuc_step.specs.Steps.{Ends, EndsAt, EndsOf, NothingToEnd, caught_up_to, finished, is_split, landed, reason_of, split_changes}
 use Rattle.nuc_step.specs.declared.reason.Reason.{Reason}
 use Rattle.nuc_step.specs.declared.reply.DoneReply.{DoneReply}
 use Rattle.nuc_step.proofs.Outcomes.{Came, came_of}
