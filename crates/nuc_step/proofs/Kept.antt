@@ -90,7 +90,7 @@ later_stage k j op planned le fits = tt
 later_stage k j op started le fits = tt
 later_stage k j op (taken t) le fits = later_taken k j op t le fits
 
-later_flight : (k j : ℕ) → k ≤ j → (f : Flight) → IsFlight k f → IsFlight j f
+pub later_flight : (k j : ℕ) → k ≤ j → (f : Flight) → IsFlight k f → IsFlight j f
 later_flight k j le f is = record { op = is.op; stage = later_stage k j f.op f.stage le is.stage }
 
 -- WHAT IS LAID BY for it
@@ -336,7 +336,7 @@ pub fits_numbered : (n : ℕ) (remote : RemoteState) (ops : List Op) → All May
 fits_numbered n remote ops may = all_numbered FitsOp n remote ops (λ op number base fits. record { remote = fits.remote; local = fits.local; synced = fits.synced })
     (All-weaker MayFly FitsOp (λ op may. may.fits) ops may)
 
-may_numbered : (n : ℕ) (remote : RemoteState) (ops : List Op) → All MayFly ops → All MayFly (numbered n remote ops)
+pub may_numbered : (n : ℕ) (remote : RemoteState) (ops : List Op) → All MayFly ops → All MayFly (numbered n remote ops)
 may_numbered n remote ops may = all_numbered MayFly n remote ops
     (λ op number base may. record { id = may.id; other = may.other; fits = record { remote = may.fits.remote; local = may.fits.local; synced = may.fits.synced } }) may
 

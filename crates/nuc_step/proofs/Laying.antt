@@ -1,8 +1,8 @@
--- Operations get their numbers, and the nodes that they put are laid by under them.
+-- Operations get their numbers, and the nodes that they put are laid by under these.
 use Rattle.std.specs.Prelude.{All}
-use Rattle.std.proofs.Common.{◌≡◌, ◌+◌, ◌<◌, ◌≤◌, ◌++◌, ℕ, List, [], ◌∷◌, length, take, drop, get_or, Some, sym, ◌∙◌, ap, subst, inl, inr, arith}
+use Rattle.std.proofs.Common.{◌≡◌, ◌+◌, ◌<◌, ◌≤◌, ◌++◌, ℕ, List, length, take, drop, get_or, Some, sym, ◌∙◌, ap, subst, inl, inr, arith}
 use Rattle.std.proofs.lemmas.List.{get_or-take, get_or_read, length-take-le, take_all}
-use Rattle.std.proofs.lemmas.List.Elements.{All-cons, All-more, All-nil, All-weaker}
+use Rattle.std.proofs.lemmas.List.Elements.{All-more}
 use Rattle.std.specs.FinMap.{get, insert}
 use Rattle.nuc_base.specs.declared.change.Change.{Change}
 use Rattle.nuc_base.specs.declared.change.Change.TheVariants.{Keep, Put, Cut}
@@ -10,10 +10,9 @@ use Rattle.nuc_base.specs.declared.node.Node.{Node}
 use Rattle.nuc_base.proofs.Maps.{get_put_other, get_put_same, same_or_not}
 use Rattle.nuc_class.specs.declared.op.Op.{Op}
 use Rattle.nuc_replica.specs.Remote.{RemoteState}
-use Rattle.nuc_step.specs.Launch.{AreApart, IsFresh, LaidOne, LaidOver}
-use Rattle.nuc_step.specs.Sound.{AreUntaken, IsLaid}
-use Rattle.nuc_step.specs.Steps.{base_of, numbered}
-use Rattle.nuc_step.proofs.Flying.{numbers_from}
+use Rattle.nuc_step.specs.Launch.{AreApart, LaidOne, LaidOver}
+use Rattle.nuc_step.specs.Sound.{IsLaid}
+use Rattle.nuc_step.specs.Steps.{numbered}
 use Rattle.nuc_undo.specs.Laid.{Laid}
 
 -- ONE MORE HAS ITS NUMBER: those before have theirs, and the rest will have theirs from the next on
@@ -59,29 +58,14 @@ module _ (ops : List Op) (i : ℕ) (op : Op) (within : i < length ops) (read : o
   laid_one c laid laid_then new new_then apart one is before =
       All-more (λ o. IsLaid new o.number (c o)) ops i op within
       (λ k d lt.
-        let size : length (take i ops) ≡ i = length-take-le i ops (omega arith) in
-        let o = get_or (take i ops) k d in
-        let from : o ≡ get_or ops k d = get_or-take i ops k d (omega (arith, lt, size)) in
-        stays_laid laid new o.number (c o)
-          (one.others o.number (λ same. apart k i d (omega (arith, lt, size)) within (sym (ap (λ (o : Op). o.number) from) ∙ same ∙ number_at d)))
-          (before k d lt))
+      let size : length (take i ops) ≡ i = length-take-le i ops (omega arith) in
+      let o = get_or (take i ops) k d in
+      let from : o ≡ get_or ops k d = get_or-take i ops k d (omega (arith, lt, size)) in
+      stays_laid laid new o.number (c o)
+      (one.others o.number (λ same. apart k i d (omega (arith, lt, size)) within (sym (ap (λ (o : Op). o.number) from) ∙ same ∙ number_at d)))
+      (before k d lt))
       (subst (λ (o : Op). IsLaid new o.number (c o)) read is)
 
 pub laid_all : (c : Op → Change) (laid : Laid) (i : ℕ) (ops : List Op) → length ops ≤ i → All (λ o. IsLaid laid o.number (c o)) (take i ops)
     → All (λ o. IsLaid laid o.number (c o)) ops
 laid_all c laid i ops end all = subst (All (λ o. IsLaid laid o.number (c o))) (take_all i ops end) all
-
--- THE NUMBERS are below the first one that is left, and nothing lay under them
-pub numbers_below : (n : ℕ) (remote : RemoteState) (ops : List Op) → All (λ op. op.number < n + length ops) (numbered n remote ops)
-numbers_below n remote [] = All-nil (λ op. op.number < n + 0)
-numbers_below n remote (op ∷ ops) =
-    All-cons (λ o. o.number < n + length (op ∷ ops)) (record op { number = n; base = base_of op.effect remote op.id.0 }) (numbered (n + 1) remote ops) (omega arith)
-    (All-weaker (λ o. o.number < (n + 1) + length ops) (λ o. o.number < n + length (op ∷ ops)) (λ o below. omega (arith, below)) (numbered (n + 1) remote ops) (numbers_below (n + 1) remote ops))
-
-pub fresh_numbered : (n : ℕ) (remote : RemoteState) (ops : List Op) (laid laid_then : Laid) → AreUntaken laid laid_then n → All (IsFresh laid laid_then) (numbered n remote ops)
-fresh_numbered n remote ops laid laid_then untaken =
-    All-weaker (λ op. n ≤ op.number) (IsFresh laid laid_then) (λ op from. untaken op.number from) (numbered n remote ops) (numbers_from n remote ops)
-
--- what was free under a number still is
-pub untaken_over : (ops : List Op) (n : ℕ) (laid laid_then new new_then : Laid) → LaidOver ops laid laid_then new new_then → AreUntaken laid laid_then n → AreUntaken new new_then n
-untaken_over ops n laid laid_then new new_then over untaken i from = over.fresh i (untaken i from)

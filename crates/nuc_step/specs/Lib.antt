@@ -1,5 +1,6 @@
 pub mod Calls
 pub mod Client
 pub mod Launch
+pub mod Laws
 pub mod Sound
 pub mod Steps

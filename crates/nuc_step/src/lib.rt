@@ -7,6 +7,7 @@ mod counts;
 mod event;
 mod landing;
 mod launch;
+mod laws;
 mod log;
 mod reason;
 mod reply;
@@ -17,6 +18,10 @@ mod view;
 pub use answers::{FlyReply, NoSuchOp, TakeFault};
 pub use client::Client;
 pub use event::Event;
+pub use laws::{
+    a_done_ends_in_one_way, a_done_writes_one_identity, a_move_keeps_its_identity,
+    each_step_keeps_a_client, what_stays_keeps_its_key,
+};
 pub use log::{Log, LogEntry};
 pub use reason::Reason;
 pub use reply::{DoneReply, MarkReply, PlanReply, Reply, ScanReply, StartReply, TakeReply};

@@ -1,0 +1,29 @@
+ghost use Rattle.nuc_step.specs.Laws.{DoneWritesOnce, MoveKeepsKey, OneEnd, StayingKeepsKey, StepsKeepClients};
+
+/// Two Dones of one operation, of one client and with the same recorded, have the same reply, and the same client and
+/// recorded come of them.
+pub fn a_done_ends_in_one_way()
+    ensures { OneEnd }
+{}
+
+/// A Done changes at most one identity of Local and of Synced, the operation's; a split changes two of Local. Remote
+/// takes entries that it has heard of, or nothing.
+pub fn a_done_writes_one_identity()
+    ensures { DoneWritesOnce }
+{}
+
+/// What is in the folder before a Done and after it keeps its key.
+pub fn what_stays_keeps_its_key()
+    ensures { StayingKeepsKey }
+{}
+
+/// An operation that moves what is in the folder leaves its key as it was, so it stays the same file.
+pub fn a_move_keeps_its_identity()
+    ensures { MoveKeepsKey }
+{}
+
+/// Whatever step a client takes, it is a client after it: its trees are well formed, its keys follow Local, and what is
+/// in flight may be there.
+pub fn each_step_keeps_a_client()
+    ensures { StepsKeepClients }
+{}
