@@ -2,3 +2,4 @@ pub mod Ends
 pub mod Flying
 pub mod Kept
 pub mod Landed
+pub mod Laying

@@ -17,3 +17,9 @@ pub record LaidOver (ops : List Op) (laid laid_then new new_then : Laid) : Type 
   pub others : (n : ℕ) → All (λ op. n ≢ op.number) ops → get new n ≡ get laid n
   pub others_then : (n : ℕ) → All (λ op. n ≢ op.number) ops → get new_then n ≡ get laid_then n
   pub fresh : (n : ℕ) → get laid n ≡ get laid_then n → get new n ≡ get new_then n
+
+-- only what lies under this number may have changed, and the same lies there now and then
+pub record LaidOne (number : ℕ) (laid laid_then new new_then : Laid) : Type 0 where
+  pub others : (n : ℕ) → n ≢ number → get new n ≡ get laid n
+  pub others_then : (n : ℕ) → n ≢ number → get new_then n ≡ get laid_then n
+  pub fresh : get new number ≡ get new_then number

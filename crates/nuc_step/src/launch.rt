@@ -1,7 +1,9 @@
 ghost use Rattle.std.specs.Prelude.{◌≡◌, ◌<◌, ◌+◌, All, OnOk, length};
+ghost use Rattle.std.specs.FinMap.{get};
+ghost use Rattle.nuc_base.specs.Changes.{FitsChange};
 ghost use Rattle.nuc_class.specs.Due.{FitsOp};
 ghost use Rattle.nuc_replica.specs.Local.{KeepsLocal};
-ghost use Rattle.nuc_step.specs.Launch.{AreApart, IsFresh, LaidOver};
+ghost use Rattle.nuc_step.specs.Launch.{AreApart, IsFresh, LaidOne, LaidOver};
 ghost use Rattle.nuc_step.specs.Sound.{IsLaid};
 ghost use Rattle.nuc_step.specs.Steps.{base_of, numbered};
 ghost use Rattle.nuc_undo.specs.Steps.{KeepsTree};
@@ -49,11 +51,31 @@ pub(crate) fn lay_local<T: TreeLike>(
     ensures keeps { KeepsLocal local.old local.new }
 {
     for op in ops {
-        if let Change::Put(node) = &op.local {
-            local.lay_by(op.number, node.copy(alloc)?)?;
-        }
+        lay_in_local(alloc, local, op.number, &op.local)?;
     }
     Ok(())
+}
+
+/// Lays a copy of the node by that a change of Local puts, where it puts one.
+fn lay_in_local<T: TreeLike>(
+    alloc: Global,
+    local: &mut Local<T>,
+    number: u64,
+    change: &Change,
+) -> Result<(), AllocError>
+    requires fits { FitsChange change.now }
+    requires fresh { get local.old.laid number ≡ get local.old.laid_then number }
+    ensures laid { OnOk result (IsLaid local.new.laid number change.now) }
+    ensures one { LaidOne number local.old.laid local.old.laid_then local.new.laid local.new.laid_then }
+    ensures keeps { KeepsLocal local.old local.new }
+{
+    match change {
+        Change::Put(node) => {
+            local.lay_by(number, node.copy(alloc)?)?;
+            Ok(())
+        }
+        Change::Keep | Change::Cut => Ok(()),
+    }
 }
 
 /// The same in Synced.
@@ -70,9 +92,29 @@ pub(crate) fn lay_synced<T: TreeLike>(
     ensures keeps { KeepsTree synced.old synced.new }
 {
     for op in ops {
-        if let Change::Put(node) = &op.synced {
-            synced.lay_by(op.number, node.copy(alloc)?)?;
-        }
+        lay_in_synced(alloc, synced, op.number, &op.synced)?;
     }
     Ok(())
+}
+
+/// Lays a copy of the node by that a change of Synced puts, where it puts one.
+fn lay_in_synced<T: TreeLike>(
+    alloc: Global,
+    synced: &mut UndoTree<T>,
+    number: u64,
+    change: &Change,
+) -> Result<(), AllocError>
+    requires fits { FitsChange change.now }
+    requires fresh { get synced.old.laid number ≡ get synced.old.laid_then number }
+    ensures laid { OnOk result (IsLaid synced.new.laid number change.now) }
+    ensures one { LaidOne number synced.old.laid synced.old.laid_then synced.new.laid synced.new.laid_then }
+    ensures keeps { KeepsTree synced.old synced.new }
+{
+    match change {
+        Change::Put(node) => {
+            synced.lay_by(number, node.copy(alloc)?)?;
+            Ok(())
+        }
+        Change::Keep | Change::Cut => Ok(()),
+    }
 }
