@@ -1,7 +1,7 @@
 pub mod Ends
 pub mod Flying
-mod Keyed
 pub mod Kept
+mod Keyed
 pub mod Landed
 pub mod Laying
 mod LocalAfter

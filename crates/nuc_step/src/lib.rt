@@ -3,6 +3,8 @@
 
 mod answers;
 mod client;
+#[cfg(test)]
+mod client_tests;
 mod counts;
 mod event;
 mod landing;
