@@ -1,0 +1,22 @@
+-- The two lists beside a tree's entries.
+use Rattle.std.specs.Prelude.{◌≡◌, ◌-◌, ℕ, min, vec_len, vec_capacity}
+use Rattle.nuc_base.specs.Trees.{Nodes}
+use Rattle.nuc_index.specs.Rows.{Holds}
+use Rattle.nuc_index.specs.Places.{IsRisingByPlace, HasNode}
+use Rattle.nuc_index.specs.Siblings.{IsRisingByParent, IsRow}
+use Rattle.nuc_index.specs.declared.indexes.Indexes.{Indexes}
+
+-- both have each identity of the tree once, each in its order
+pub record IsIndex (m : Nodes) (i : Indexes) : Type 0 where
+  pub places_rise : IsRisingByPlace m i.places.items
+  pub places : Holds (HasNode m) i.places.items
+  pub siblings_rise : IsRisingByParent i.siblings.items
+  pub siblings : Holds (IsRow m) i.siblings.items
+
+-- how many more identities both can take without memory
+abbrev pub index_spare : Indexes → ℕ
+index_spare i = min (vec_capacity i.places - vec_len i.places) (vec_capacity i.siblings - vec_len i.siblings)
+
+pub record SameLists (i j : Indexes) : Type 0 where
+  pub places : j.places.items ≡ i.places.items
+  pub siblings : j.siblings.items ≡ i.siblings.items
