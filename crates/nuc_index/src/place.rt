@@ -1,4 +1,5 @@
 ghost use Rattle.std.specs.Prelude.{◌≡◌, ◌<◌, ◌≤◌, length, option_copied, MatchResult};
+ghost use Rattle.std.specs.FinMap as map;
 ghost use Rattle.nuc_base.specs.declared.node.Place.{Place};
 ghost use Rattle.nuc_index.specs.Entries.{IsRising, nodes_of};
 ghost use Rattle.nuc_index.specs.Places.{IsPlaceAt, IsPlaceGap, IsRisingByPlace, place_order, to_place};
@@ -20,7 +21,12 @@ pub fn place_position(
     ensures place { let place : Place = record { parent = parent; name = name.now } in MatchResult result (IsPlaceAt (nodes_of entries.now) place places.now) (IsPlaceGap (nodes_of entries.now) place places.now) }
     ensures bound { MatchResult result (λ i. i < length places.now) (λ i. i ≤ length places.now) }
 {
-    places.binary_search_by(|id| order_to(node_of(entries, *id), parent, name))
+    places.binary_search_by(
+        |id: &NodeId| -> Ordering
+            requires { IsRising entries.now }
+            ensures { let place : Place = record { parent = parent; name = name.entry.now } in result ≡ to_place (map.get (nodes_of entries.entry.now) id.now.0) place }
+        { order_to(node_of(entries, *id), parent, name) },
+    )
 }
 
 /// How the place of a node compares with this one. No node comes first.

@@ -17,7 +17,11 @@ pub fn sibling_position(siblings: &[Sibling], row: Sibling) -> Result<usize, usi
     ensures place { MatchResult result (IsRowAt row siblings.now) (IsRowGap row siblings.now) }
     ensures bound { MatchResult result (λ i. i < length siblings.now) (λ i. i ≤ length siblings.now) }
 {
-    siblings.binary_search_by(|other| order(*other, row))
+    siblings.binary_search_by(
+        |other: &Sibling| -> Ordering
+            ensures { result ≡ sibling_order other.now row }
+        { order(*other, row) },
+    )
 }
 
 /// The order of rows: by the parents' identities, and then by their own.
