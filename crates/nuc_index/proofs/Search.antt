@@ -33,7 +33,7 @@ module _ {A : Type 0} where
   all_at P (x ∷ xs) zero d all lt = all.0
   all_at P (x ∷ xs) (suc j) d all lt = all_at P xs j d all.1 (omega arith)
 
-  all_from : (P : A → Type 0) (xs : List A) → ((k : ℕ) (d : A) → k < length xs → P (get_or xs k d)) → AllByRecursion P xs
+  pub all_from : (P : A → Type 0) (xs : List A) → ((k : ℕ) (d : A) → k < length xs → P (get_or xs k d)) → AllByRecursion P xs
   all_from P [] f = tt
   all_from P (x ∷ xs) f = (f 0 x (omega arith), all_from P xs (λ k d lt. f (suc k) d (omega arith)))
 

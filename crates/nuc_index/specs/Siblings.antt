@@ -1,5 +1,5 @@
 -- The list of identities in order of parent and identity.
-use Rattle.std.specs.Prelude.{◌≡◌, ◌==◌, ℕ, List, map, filter, Some}
+use Rattle.std.specs.Prelude.{◌≡◌, ◌==◌, ℕ, cond, List, map, filter, Option, Some, None}
 use Rattle.std.specs.FinMap.{get}
 use Rattle.std.specs.Ordering.{nat_cmp, ordering_then}
 use Rattle.std.specs.declared.cmp.Ordering.{Ordering}
@@ -23,6 +23,11 @@ IsRowGap r rs i = IsGap (λ s. sibling_order s r) rs i
 -- the identities of those with this parent, in the list's order
 abbrev pub child_rows : ℕ → List Sibling → List ℕ
 child_rows x rs = map (λ r. r.id.0) (filter (λ r. r.parent.0 == x) rs)
+
+-- the identity of a row, if it has this parent
+abbrev pub id_below : ℕ → Option Sibling → Option ℕ
+id_below x None = None
+id_below x (Some r) = cond (r.parent.0 == x) (Some r.id.0) None
 
 -- the identity has a node, and that has this parent
 abbrev pub IsRow : Nodes → Sibling → Type 0

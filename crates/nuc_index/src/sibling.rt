@@ -1,5 +1,5 @@
-ghost use Rattle.std.specs.Prelude.{◌≡◌, ◌<◌, ◌≤◌, length, option_map, slice_get, MatchResult};
-ghost use Rattle.nuc_index.specs.Siblings.{IsRowAt, IsRowGap, IsRisingByParent, child_rows, sibling_order};
+ghost use Rattle.std.specs.Prelude.{◌≡◌, ◌<◌, ◌≤◌, length, ℕ, option_map, slice_get, MatchResult};
+ghost use Rattle.nuc_index.specs.Siblings.{IsRowAt, IsRowGap, IsRisingByParent, child_rows, id_below, sibling_order};
 
 use nuc_base::NodeId;
 use std::cmp::Ordering;
@@ -34,14 +34,25 @@ fn order(row: Sibling, other: Sibling) -> Ordering
     }
 }
 
-/// The identity at this position among those with this parent, in rising order. A binary search for the first of them.
+/// The identity at this position among those with this parent, in rising order.
 pub fn child_at(siblings: &[Sibling], parent: NodeId, i: u64) -> Option<NodeId>
     requires { IsRisingByParent siblings.now }
     ensures { option_map (λ x. x.0) result ≡ slice_get (child_rows parent.0 siblings.now) i }
 {
-    let start = siblings.partition_point(|row| row.parent.0 < parent.0);
-    match siblings[start..].get(i as usize) {
-        Some(row) if row.parent == parent => Some(row.id),
-        _ => None,
+    let row = from_parent(siblings, parent).get(i as usize)?;
+    if row.parent == parent {
+        Some(row.id)
+    } else {
+        None
     }
+}
+
+/// The rows from the first one on whose parent isn't below this one. A binary search.
+fn from_parent(siblings: &[Sibling], parent: NodeId) -> &[Sibling]
+    requires { IsRisingByParent siblings.now }
+    ensures { (i : ℕ) → slice_get (child_rows parent.0 siblings.now) i ≡ id_below parent.0 (slice_get result.now i) }
+{
+    let start = siblings.partition_point(|row| row.parent.0 < parent.0);
+    let (_, rest) = siblings.split_at(start);
+    rest
 }
