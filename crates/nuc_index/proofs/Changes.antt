@@ -1,9 +1,10 @@
 -- Two changes of one identity as one.
-use Rattle.std.proofs.Common.{◌≡◌, ◌≢◌, ℕ, None, sym, subst, ◌∙◌, inl, inr}
-use Rattle.std.specs.FinMap.{get, insert, remove}
+use Rattle.std.proofs.Common.{◌≡◌, ◌≢◌, ℕ, Some, None, sym, subst, ◌∙◌, inl, inr}
+use Rattle.std.specs.FinMap.{get, empty, get-empty, insert, remove}
+use Rattle.std.specs.Ordering.{nat_cmp}
 use Rattle.nuc_base.specs.Trees.{Nodes}
 use Rattle.nuc_base.specs.declared.node.Node.{Node}
-use Rattle.nuc_base.proofs.Maps.{same_or_not, same_nodes, get_put_same, get_put_other, get_cut_same, get_cut_other}
+use Rattle.nuc_base.proofs.Maps.{same_or_not, same_nodes, not_both, get_put_same, get_put_other, get_cut_same, get_cut_other}
 
 -- two trees that differ at x at most, and have the same there
 same_but : (m k : Nodes) (x : ℕ) → get m x ≡ get k x → ((y : ℕ) → y ≢ x → get m y ≡ get k y) → m ≡ k
@@ -20,3 +21,6 @@ module _ (m : Nodes) (x : ℕ) (n : Node) where
 
   pub cut_of_new : get m x ≡ None → remove (insert m x n) x ≡ m
   cut_of_new none = same_but _ _ x (get_cut_same _ x ∙ sym none) (λ y apart. get_cut_other _ x y apart ∙ get_put_other m x n y apart)
+
+pub nowhere : (x : ℕ) (n : Node) → ¬ (get {R = nat_cmp} empty x ≡ Some n)
+nowhere x n h = not_both empty x n (get-empty nat_cmp x) h
