@@ -1,9 +1,12 @@
 -- The two lists beside a tree's entries.
-use Rattle.std.specs.Prelude.{◌≡◌, ◌-◌, ℕ, min, vec_len, vec_capacity}
+use Rattle.std.specs.Prelude.{◌≡◌, ◌-◌, ℕ, List, Vec, min, vec_len, vec_capacity}
+use Rattle.std.specs.Global.{Global}
 use Rattle.nuc_base.specs.Trees.{Nodes}
+use Rattle.nuc_index.specs.Entries.{IsRising, nodes_of}
 use Rattle.nuc_index.specs.Rows.{Holds}
 use Rattle.nuc_index.specs.Places.{IsRisingByPlace, HasNode}
 use Rattle.nuc_index.specs.Siblings.{IsRisingByParent, IsRow}
+use Rattle.nuc_index.specs.declared.entry.Entry.{Entry}
 use Rattle.nuc_index.specs.declared.indexes.Indexes.{Indexes}
 
 -- both have each identity of the tree once, each in its order
@@ -20,3 +23,12 @@ index_spare i = min (vec_capacity i.places - vec_len i.places) (vec_capacity i.s
 pub record SameLists (i j : Indexes) : Type 0 where
   pub places : j.places.items ≡ i.places.items
   pub siblings : j.siblings.items ≡ i.siblings.items
+
+-- the entries of a tree, and its lists
+pub record IsIndexed (es : List Entry) (i : Indexes) : Type 0 where
+  pub rise : IsRising es
+  pub lists : IsIndex (nodes_of es) i
+
+-- how many more nodes a tree can take without memory
+abbrev pub room : Vec Entry Global → Indexes → ℕ
+room entries i = min (vec_capacity entries - vec_len entries) (index_spare i)

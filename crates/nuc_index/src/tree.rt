@@ -2,6 +2,7 @@ ghost use Rattle.std.specs.Prelude.{◌≡◌};
 ghost use Rattle.std.specs.FinMap as map;
 ghost use Rattle.nuc_base.specs.Trees.{WellFormed};
 
+use crate::change::{add, exchange, take_out};
 use crate::entry::{Entry, entry_position, node_of};
 use crate::indexes::Indexes;
 use crate::place::place_position;
@@ -9,7 +10,6 @@ use crate::sibling::child_at;
 use nuc_base::{CutFault, Name, Node, NodeId, PutFault, TreeLike};
 use std::alloc::{AllocError, Global};
 use std::marker::Model;
-use std::mem;
 
 /// A tree as a list of its nodes in order of identity, with indexes by place and by parent. Every question takes time in
 /// the logarithm of the number of nodes; `at` its square, and `under` the logarithm at each folder on the way. A change
@@ -21,18 +21,17 @@ pub struct IndexTree {
 }
 
 impl Model for IndexTree {
-    ghost use Rattle.std.specs.Prelude.{◌-◌, min, vec_len, vec_capacity};
     ghost use Rattle.nuc_tree.specs.State.{TreeState, state_code};
-    ghost use Rattle.nuc_index.specs.Entries.{nodes_of, IsRising};
-    ghost use Rattle.nuc_index.specs.Indexes.{IsIndex, index_spare};
+    ghost use Rattle.nuc_index.specs.Entries.{nodes_of};
+    ghost use Rattle.nuc_index.specs.Indexes.{IsIndexed, room};
 
     ghost Value = { TreeState };
 
     ghost coded = { state_code };
 
-    ghost view = { λ t. record { nodes = nodes_of t.entries.items; spare = min (vec_capacity t.entries - vec_len t.entries) (index_spare t.indexes) } };
+    ghost view = { λ t. record { nodes = nodes_of t.entries.items; spare = room t.entries t.indexes } };
 
-    ghost invariant = { λ t. IsRising t.entries.items × IsIndex (nodes_of t.entries.items) t.indexes };
+    ghost invariant = { λ t. IsIndexed t.entries.items t.indexes };
 }
 
 impl IndexTree {
@@ -96,18 +95,13 @@ impl TreeLike for IndexTree {
         self.check_put(id, &node)?;
         match entry_position(&self.entries, id) {
             Ok(at) => {
-                self.indexes.leave(&self.entries, &self.entries[at]);
-                let Entry { id: _, node } = mem::replace(&mut self.entries[at], Entry { id, node });
-                self.indexes.enter(&self.entries, &self.entries[at]);
-                Ok(Some(node))
+                let entry = Entry { id, node };
+                let before = exchange(&mut self.entries, &mut self.indexes, at, entry);
+                Ok(Some(before))
             }
             Err(at) => {
-                self.indexes.reserve(1).map_err(|_| PutFault::Memory)?;
                 let entry = Entry { id, node };
-                self.entries
-                    .insert(at, entry)
-                    .map_err(|_| PutFault::Memory)?;
-                self.indexes.enter(&self.entries, &self.entries[at]);
+                add(&mut self.entries, &mut self.indexes, at, entry).map_err(|_| PutFault::Memory)?;
                 Ok(None)
             }
         }
@@ -120,8 +114,7 @@ impl TreeLike for IndexTree {
         if child_at(&self.indexes.siblings, id, 0).is_some() {
             return Err(CutFault::NotEmpty);
         }
-        self.indexes.leave(&self.entries, &self.entries[at]);
-        let Entry { id: _, node } = self.entries.remove(at);
+        let Entry { id: _, node } = take_out(&mut self.entries, &mut self.indexes, at);
         Ok(node)
     }
 }
