@@ -1,6 +1,8 @@
 -- The two lists beside a tree's entries.
-use Rattle.std.specs.Prelude.{◌≡◌, ◌-◌, ℕ, List, Vec, min, vec_len, vec_capacity}
+use Rattle.std.specs.Prelude.{◌≡◌, ◌-◌, ℕ, List, Vec, Some, min, vec_len, vec_capacity}
+use Rattle.std.specs.FinMap.{get, remove}
 use Rattle.std.specs.Global.{Global}
+use Rattle.nuc_base.specs.Legal.{IsFree}
 use Rattle.nuc_base.specs.Trees.{Nodes}
 use Rattle.nuc_index.specs.Entries.{IsRising, nodes_of}
 use Rattle.nuc_index.specs.Rows.{Holds}
@@ -28,6 +30,13 @@ pub record SameLists (i j : Indexes) : Type 0 where
 pub record IsIndexed (es : List Entry) (i : Indexes) : Type 0 where
   pub rise : IsRising es
   pub lists : IsIndex (nodes_of es) i
+
+-- the identity of the entry e is the only one of these that isn't in the lists, and its place is its own
+pub record CanEnter (es : List Entry) (e : Entry) (i : Indexes) : Type 0 where
+  pub rise : IsRising es
+  pub there : get (nodes_of es) e.id.0 ≡ Some e.node
+  pub free : IsFree (nodes_of es) e.id.0 e.node.place
+  pub lists : IsIndex (remove (nodes_of es) e.id.0) i
 
 -- how many more nodes a tree can take without memory
 abbrev pub room : Vec Entry Global → Indexes → ℕ

@@ -1,8 +1,7 @@
 ghost use Rattle.std.specs.Prelude.{◌≡◌, ◌<◌, ◌≤◌, ◌+◌, Some, OnOk, OnErr};
 ghost use Rattle.std.specs.FinMap as map;
-ghost use Rattle.nuc_base.specs.Legal.{IsFree};
 ghost use Rattle.nuc_index.specs.Entries.{IsRising, nodes_of};
-ghost use Rattle.nuc_index.specs.Indexes.{IsIndex, SameLists, index_spare};
+ghost use Rattle.nuc_index.specs.Indexes.{CanEnter, IsIndex, SameLists, index_spare};
 
 use crate::entry::Entry;
 use crate::place::place_position;
@@ -41,10 +40,7 @@ impl Indexes {
 
     /// Puts in the identity of one of the entries, which is the only one of them that isn't in. The room is there.
     pub fn enter(&mut self, entries: &[Entry], entry: &Entry)
-        requires rise { IsRising entries.now }
-        requires there { map.get (nodes_of entries.now) entry.now.id.0 ≡ Some entry.now.node }
-        requires free { IsFree (nodes_of entries.now) entry.now.id.0 entry.now.node.place }
-        requires lists { IsIndex (map.remove (nodes_of entries.now) entry.now.id.0) self.old }
+        requires can { CanEnter entries.now entry.now self.old }
         requires room { 0 < index_spare self.old }
         ensures lists { IsIndex (nodes_of entries.now) self.new }
         ensures spare { index_spare self.old ≡ index_spare self.new + 1 }

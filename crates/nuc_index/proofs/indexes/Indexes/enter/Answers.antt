@@ -11,17 +11,17 @@ use Rattle.nuc_index.proofs.indexes.Indexes.enter.Goals as goal
 
 pub place_position-requires-clause-rise : goal.place_position-requires-clause-rise
 place_position-requires-clause-rise c = subst (IsRisingByPlace (nodes_of c.args.entries.now)) (sym c.deref.ensures.value)
-    (rises_in_whole _ c.args.entry.now.id c.args.entry.now.node c.requires.there _ c.requires.lists.places_rise c.requires.lists.places)
+    (rises_in_whole _ c.args.entry.now.id c.args.entry.now.node c.requires.can.there _ c.requires.can.lists.places_rise c.requires.can.lists.places)
 
 pub unreachable-requires : goal.unreachable-requires
-unreachable-requires c = not_taken _ c.args.entry.now.id c.args.entry.now.node c.requires.there _ c.requires.lists.places_rise c.requires.lists.places c.in_default.field-0 c.requires.free
+unreachable-requires c = not_taken _ c.args.entry.now.id c.args.entry.now.node c.requires.can.there _ c.requires.can.lists.places_rise c.requires.can.lists.places c.in_default.field-0 c.requires.can.free
     (subst (λ l. IsPlaceAt (nodes_of c.args.entries.now) c.args.entry.now.node.place l c.in_default.field-0) c.deref.ensures.value c.in_default.ensures.place)
 
 pub unreachable-requires-in_default-sibling_position : goal.unreachable-requires-in_default-sibling_position
 unreachable-requires-in_default-sibling_position c =
     let i = c.in_default-sibling_position.field-0 in
-    not_there_yet _ c.args.entry.now.id.0 c.args.entry.now.node c.requires.there _ i c.requires.lists.siblings
-    (subst (λ l. IsRowAt (own _ c.args.entry.now.id.0 c.args.entry.now.node c.requires.there l i) l i) c.deref-2.ensures.value c.in_default-sibling_position.ensures.place)
+    not_there_yet _ c.args.entry.now.id.0 c.args.entry.now.node c.requires.can.there _ i c.requires.can.lists.siblings
+    (subst (λ l. IsRowAt (own _ c.args.entry.now.id.0 c.args.entry.now.node c.requires.can.there l i) l i) c.deref-2.ensures.value c.in_default-sibling_position.ensures.place)
 
 pub returns-clause-lists : goal.returns-clause-lists
 returns-clause-lists c =
@@ -34,8 +34,8 @@ returns-clause-lists c =
     let gap = subst (λ l. IsPlaceGap m e.node.place l i) c.deref.ensures.value c.in-Err.ensures.place in
     let row_gap = subst (λ l. IsRowGap (record { parent = e.node.place.parent; id = e.id }) l j) c.deref-2.ensures.value c.in-Err-sibling_position.ensures.place in
     record {
-      places_rise = subst (IsRisingByPlace m) (sym places) (with_rises m e.id e.node c.requires.there _ c.requires.lists.places_rise c.requires.lists.places i gap);
-      places = subst (Holds (HasNode m)) (sym places) (with_holds m e.id e.node c.requires.there _ c.requires.lists.places_rise c.requires.lists.places i);
-      siblings_rise = subst IsRisingByParent (sym siblings) (with_row_rises _ c.requires.lists.siblings_rise _ j row_gap);
-      siblings = subst (Holds (IsRow m)) (sym siblings) (with_row m e.id.0 e.node c.requires.there _ j c.requires.lists.siblings);
+      places_rise = subst (IsRisingByPlace m) (sym places) (with_rises m e.id e.node c.requires.can.there _ c.requires.can.lists.places_rise c.requires.can.lists.places i gap);
+      places = subst (Holds (HasNode m)) (sym places) (with_holds m e.id e.node c.requires.can.there _ c.requires.can.lists.places_rise c.requires.can.lists.places i);
+      siblings_rise = subst IsRisingByParent (sym siblings) (with_row_rises _ c.requires.can.lists.siblings_rise _ j row_gap);
+      siblings = subst (Holds (IsRow m)) (sym siblings) (with_row m e.id.0 e.node c.requires.can.there _ j c.requires.can.lists.siblings);
     }
