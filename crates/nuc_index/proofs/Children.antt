@@ -1,5 +1,5 @@
 -- The children of an identity are the rows with that parent, and these stand together.
-use Rattle.std.proofs.Common.{◌≡◌, ◌≢◌, ◌⊎◌, ◌<◌, ◌≤◌, ℕ, zero, suc, Bool, true, false, cond, ltb, ltb-true, ltb-false, List, [], ◌∷◌, map, drop, length, get_or, Option, Some, None, refl, sym, ap, subst, ◌∙◌, inl, inr, arith}
+use Rattle.std.proofs.Common.{◌≡◌, ◌≢◌, ◌⊎◌, ◌<◌, ◌≤◌, ℕ, zero, suc, Bool, true, false, cond, ltb, ltb-true, ltb-false, List, [], ◌∷◌, map, drop, length, get_or, Option, Some, None, MatchBool, is_some, option_map, refl, sym, ap, subst, ◌∙◌, inl, inr, arith}
 use Rattle.std.specs.Prelude.{◌==◌, slice_get}
 use Rattle.std.specs.Cmp.{nat_cmp_is}
 use Rattle.std.specs.FinMap.{get}
@@ -12,9 +12,10 @@ use Rattle.std.specs.declared.cmp.Ordering.TheVariants.{Less, Equal, Greater}
 use Rattle.std.proofs.lemmas.Bool.Decides.{eqb_tells}
 use Rattle.std.proofs.lemmas.Cmp.{ranked}
 use Rattle.std.proofs.lemmas.Option.{slice_get-get_or}
-use Rattle.nuc_base.specs.Trees.{Nodes, children}
+use Rattle.nuc_base.specs.Trees.{Nodes, HasChild, NoChild, children}
 use Rattle.nuc_base.specs.declared.node.Node.{Node}
-use Rattle.nuc_base.proofs.Children.{child_of, child_there, child_rises}
+use Rattle.nuc_base.specs.declared.node.NodeId.{NodeId}
+use Rattle.nuc_base.proofs.Children.{child_of, child_there, child_within, child_rises}
 use Rattle.nuc_base.proofs.Maps.{same_or_not}
 use Rattle.nuc_index.specs.Rows.{Rises, IsIn, Holds}
 use Rattle.nuc_index.specs.Siblings.{sibling_order, IsRisingByParent, child_rows, id_below, IsRow}
@@ -188,3 +189,17 @@ module _ (x : ℕ) where
       let parts = point (IsPartitionedBy-ltb (λ r. r.parent.0) rs x (index_along sibling_order (λ r. r.parent.0) up_by_parent rs rise)) in
       ap (λ l. slice_get l i) (rows_past rs k (λ j d a b. ltb-true _ x (parts.0 j d a b)))
       ∙ picked_from (drop k rs) i (rises_past rs k rise) (all_past rs k (λ j d a b. ltb-false _ x (parts.1 j d a b)))
+
+-- whether there is a first child tells whether there is one
+first_tells : (m : Nodes) (x : ℕ) (o : Option NodeId) → option_map (λ z. z.0) o ≡ slice_get (children m x) 0 → MatchBool (is_some o) (HasChild m x) (NoChild m x)
+first_tells m x None e = λ y n there parent.
+    let at = child_of m x y n there parent in
+    let first = child_within m x 0 (let lt = at.1 in omega arith) in
+    let both : None ≡ Some first.0 = e ∙ first.1 in cc
+first_tells m x (Some z) e = let child = child_there m x 0 z.0 (sym e) in (z.0, child.0, child.1, child.2)
+
+-- and so the first of the rows does
+pub first_row_tells : (m k : Nodes) (x : ℕ) (o : Option NodeId) (rs s : List Sibling) → m ≡ k → s ≡ rs → IsRisingByParent rs → Holds (IsRow m) rs
+    → option_map (λ z. z.0) o ≡ slice_get (child_rows x s) 0 → MatchBool (is_some o) (HasChild k x) (NoChild k x)
+first_row_tells m k x o rs s view same rise holds e = subst (λ l. MatchBool (is_some o) (HasChild l x) (NoChild l x)) view
+    (first_tells m x o (e ∙ ap (λ l. slice_get (child_rows x l) 0) same ∙ ap (λ l. slice_get l 0) (sym (children_are x m rs rise holds))))

@@ -11,7 +11,7 @@ use Rattle.std.specs.declared.cmp.Ordering.TheVariants.{Less, Equal, Greater}
 use Rattle.std.proofs.lemmas.Bool.Decides.{eqb_tells}
 use Rattle.std.proofs.lemmas.Cmp.{nat_cmp_total, tied_itself, ranked}
 use Rattle.std.proofs.lemmas.Option.{get_or_from_slice_get, slice_get_within}
-use Rattle.nuc_base.specs.Trees.{Nodes}
+use Rattle.nuc_base.specs.Trees.{Nodes, IsThere}
 use Rattle.nuc_base.specs.declared.node.Node.{Node}
 use Rattle.nuc_base.proofs.Maps.{same_or_not, same_nodes, one_node, not_both, get_put_same, get_put_other, get_cut_same, get_cut_other, after_put, after_cut}
 use Rattle.nuc_index.specs.Rows.{Rises, IsAt, IsGap, IsIn, Holds}
@@ -147,6 +147,9 @@ module _ (es : List Entry) (rise : IsRising es) (x : ℕ) (i : ℕ) (at : IsEntr
 
   pub there : (d : Entry) → map.get (nodes_of es) x ≡ Some (get_or es i d).node
   there d = (held es rise).each (entry_of x (get_or es i d).node) (subst (λ e. IsIn e es) (present d) (nth_in es i d (slice_get_within es i here.0 here.1)))
+
+  pub someone : (m : Nodes) → nodes_of es ≡ m → IsThere m x
+  someone m view = ((get_or es i here.0).node, ap (λ k. map.get k x) (sym view) ∙ there here.0)
 
   module _ (n : Node) where
     over_set : set es i (entry_of x n) ≡ insert (remove es i) i (entry_of x n)

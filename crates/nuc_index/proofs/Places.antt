@@ -1,5 +1,5 @@
 -- What the list of identities in order of place says of the tree that it is for.
-use Rattle.std.proofs.Common.{◌≡◌, ◌≢◌, ◌⊎◌, ◌≤◌, ℕ, List, Option, Some, None, refl, sym, ap, ap₂, subst, ◌∙◌, inl, inr}
+use Rattle.std.proofs.Common.{◌≡◌, ◌≢◌, ◌⊎◌, ◌≤◌, ℕ, List, get_or, Option, Some, None, refl, sym, ap, ap₂, subst, ◌∙◌, inl, inr}
 use Rattle.std.specs.Prelude.{slice_get}
 use Rattle.std.specs.Cmp.{IsTotalOrder}
 use Rattle.std.specs.Cmp.Lexicographic.{options_total}
@@ -10,6 +10,7 @@ use Rattle.std.specs.Ordering.{nat_cmp, ordering_index, ordering_then}
 use Rattle.std.specs.declared.cmp.Ordering.{Ordering}
 use Rattle.std.specs.declared.cmp.Ordering.TheVariants.{Less, Equal, Greater}
 use Rattle.std.proofs.lemmas.Cmp.{nat_cmp_total, then_total, on_total, tied_itself, tied_back, ranked}
+use Rattle.std.proofs.lemmas.Option.{get_or_from_slice_get}
 use Rattle.nuc_base.specs.Legal.{IsFree}
 use Rattle.nuc_base.specs.SamePlace.{SamePlace, name_order, name_order-total, name_order-same, same_name-order, same_place-refl}
 use Rattle.nuc_base.specs.Trees.{Nodes, IsVacant, StandsAt}
@@ -62,10 +63,10 @@ same_id : (x y : NodeId) → x.0 ≡ y.0 → x ≡ y
 same_id x y e = ap node_id e
 
 module _ (m : Nodes) (xs : List NodeId) (rise : IsRisingByPlace m xs) (holds : Holds (HasNode m) xs) where
-  pub standing : (p : Place) (i : ℕ) → IsPlaceAt m p xs i → (x : NodeId) × (slice_get xs i ≡ Some x) × StandsAt m x.0 p
-  standing p i at =
-      let x = found (λ y. to_place (get m y.0) p) xs i at in
-      (x.0, x.1, stands_of m p x.0.0 (get m x.0.0) refl x.2)
+  pub standing : (p : Place) (i : ℕ) (x : NodeId) → IsPlaceAt m p xs i → x ≡ get_or xs i x → StandsAt m x.0 p
+  standing p i x at shown =
+      let y = found (λ y. to_place (get m y.0) p) xs i at in
+      subst (λ z. StandsAt m z.0 p) (sym (shown ∙ get_or_from_slice_get xs i y.0 x y.1)) (stands_of m p y.0.0 (get m y.0.0) refl y.2)
 
   pub vacant : (p : Place) (i : ℕ) → IsPlaceGap m p xs i → IsVacant m p
   vacant p i gap x n there s = out_of_gap (λ y. to_place (get m y.0) p) xs i (node_id x) gap (holds.every (node_id x) (n, there)) (equal_of m p x n there s)
