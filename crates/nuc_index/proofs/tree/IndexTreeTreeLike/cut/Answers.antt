@@ -38,8 +38,7 @@ returns-clause-ok c =
     let view = ap (λ s. s.nodes) c.self.view_is in
     let at = subst (λ l. IsEntryAt x l c.in-Ok.at) c.deref.ensures.value c.in-Ok.ensures.place in
     let first = first_row_tells _ _ x c.child_at.result _ _ view c.deref-2.ensures.value lists.siblings_rise lists.siblings c.child_at.ensures in
-    let own : c.take_out-node.result.id.0 ≡ x = ap (λ e. e.id.0) (c.take_out-node.ensures.value ∙ present _ c.self.invariant.rise x c.in-Ok.at at c.take_out-node.result) in
-    (
+    let own : c.take_out-node.result.id.0 ≡ x = ap (λ e. e.id.0) (c.take_out-node.ensures.value ∙ present _ c.self.invariant.rise x c.in-Ok.at at c.take_out-node.result) in (
       record {
         there = someone _ c.self.invariant.rise x c.in-Ok.at at _ view;
         empty = subst (λ b. MatchBool b (HasChild ns x) (NoChild ns x)) (sym c.is_some.ensures ∙ c.if-is_some.false) first;
