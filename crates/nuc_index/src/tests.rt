@@ -185,6 +185,24 @@ fn cuts(rt: &impl Abort, alloc: Global, mut trees: Trees) -> Result<(), Fail>
     Ok(())
 }
 
+/// The change that a number stands for: whether it was accepted.
+fn change(trees: &mut Trees, rt: &impl Abort, alloc: Global, seed: u64) -> Result<bool, Fail>
+    requires { WellFormed trees.old.plain.nodes × WellFormed trees.old.indexed.nodes }
+    ensures { WellFormed trees.new.plain.nodes × WellFormed trees.new.indexed.nodes }
+{
+    let id = 1 + (seed >> 33) % 12;
+    assert!(rt; id > 0);
+    if (seed >> 40) % 4 == 0 {
+        return Ok(trees.cut(rt, NodeId(id)).is_ok());
+    }
+    let ver = if id % 3 == 0 { seed >> 60 } else { 0 };
+    let parent = (seed >> 45) % 13;
+    let name = NAMES[(seed >> 50) as usize % 6];
+    let one = node(alloc, parent, name, ver)?;
+    let other = node(alloc, parent, name, ver)?;
+    Ok(trees.put(rt, NodeId(id), one, other).is_ok())
+}
+
 #[test]
 fn answers_as_the_plain_tree_after_many_changes(rt: HostRuntime) -> Result<(), Fail> {
     let mut trees = Trees::new(rt.alloc());
@@ -194,19 +212,9 @@ fn answers_as_the_plain_tree_after_many_changes(rt: HostRuntime) -> Result<(), F
         seed = seed
             .wrapping_mul(6_364_136_223_846_793_005)
             .wrapping_add(1_442_695_040_888_963_407);
-        let id = 1 + (seed >> 33) % 12;
-        assert!(rt; id > 0);
-        let done = if (seed >> 40) % 4 == 0 {
-            trees.cut(&rt, NodeId(id)).is_ok()
-        } else {
-            let ver = if id % 3 == 0 { seed >> 60 } else { 0 };
-            let parent = (seed >> 45) % 13;
-            let name = NAMES[(seed >> 50) as usize % 6];
-            let one = node(rt.alloc(), parent, name, ver)?;
-            let other = node(rt.alloc(), parent, name, ver)?;
-            trees.put(&rt, NodeId(id), one, other).is_ok()
-        };
-        accepted = accepted.wrapping_add(u64::from(done));
+        if change(&mut trees, &rt, rt.alloc(), seed)? {
+            accepted = accepted.wrapping_add(1);
+        }
         trees.look(&rt, rt.alloc())?;
     }
     assert!(rt; accepted > 60);
