@@ -5,6 +5,7 @@ use Rattle.std.specs.FinMap as map
 use Rattle.std.specs.List.{insert, remove}
 use Rattle.std.proofs.lemmas.Option.{slice_get_read}
 use Rattle.nuc_base.specs.Legal.{IsFree}
+use Rattle.nuc_base.specs.SamePlace.{SamePlace}
 use Rattle.nuc_base.specs.Trees.{Nodes}
 use Rattle.nuc_base.specs.declared.node.Node.{Node}
 use Rattle.nuc_base.proofs.Maps.{get_put_same, after_put}
@@ -15,6 +16,8 @@ use Rattle.nuc_index.specs.Rows.{Holds}
 use Rattle.nuc_index.specs.Siblings.{IsRisingByParent, IsRow}
 use Rattle.nuc_index.specs.declared.entry.Entry.{Entry}
 use Rattle.nuc_index.specs.declared.indexes.Indexes.{Indexes}
+use Rattle.nuc_index.proofs.Places.{rises_still, holds_still}
+use Rattle.nuc_index.proofs.Siblings.{rows_still}
 use Rattle.nuc_index.proofs.Changes.{cut_of_put, cut_of_new}
 use Rattle.nuc_index.proofs.Entries.{entry_there, absent, new_rises, new_is, less_rises, less_is, over_rises, over_is}
 
@@ -53,6 +56,15 @@ module _ (es : List Entry) (e : Entry) (at : ℕ) (i : Indexes) (rise : IsRising
   pub can_enter_new : IsEntryGap e.id.0 es at → IsIndex (nodes_of es) i → CanEnter (insert es at e) e i
   can_enter_new gap lists = can_enter (insert es at e) (new_rises es rise e.id.0 e.node at gap) (new_is es rise e.id.0 e.node at gap)
       (subst (λ m. IsIndex m i) (sym (cut_of_new (nodes_of es) e.id.0 e.node (absent es rise e.id.0 at gap))) lists)
+
+-- the lists stay as they are where a node gets the place that it has
+pub still_index : (m : Nodes) (x : ℕ) (k n : Node) (i : Indexes) → map.get m x ≡ Some k → SamePlace k.place n.place → IsIndex m i → IsIndex (map.insert m x n) i
+still_index m x k n i there same index = record {
+  places_rise = rises_still m x k n there same i.places.items index.places_rise;
+  places = holds_still m x k n there same i.places.items index.places;
+  siblings_rise = index.siblings_rise;
+  siblings = rows_still m x k there i.siblings.items 0 n same.parent index.siblings;
+}
 
 -- the same where the list and the entry are shown by others
 pub as_shown : (s es : List Entry) (f e : Entry) (i : Indexes) → s ≡ es → f ≡ e → CanEnter es e i → CanEnter s f i

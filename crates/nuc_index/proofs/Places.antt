@@ -9,7 +9,7 @@ use Rattle.std.specs.Option.{option_cmp}
 use Rattle.std.specs.Ordering.{nat_cmp, ordering_index, ordering_then}
 use Rattle.std.specs.declared.cmp.Ordering.{Ordering}
 use Rattle.std.specs.declared.cmp.Ordering.TheVariants.{Less, Equal, Greater}
-use Rattle.std.proofs.lemmas.Cmp.{nat_cmp_total, then_total, on_total, tied_itself, tied_back, ranked}
+use Rattle.std.proofs.lemmas.Cmp.{nat_cmp_total, then_total, on_total, tied_itself, tied_back, alike_right, ranked}
 use Rattle.std.proofs.lemmas.Option.{get_or_from_slice_get}
 use Rattle.nuc_base.specs.Legal.{IsFree}
 use Rattle.nuc_base.specs.SamePlace.{SamePlace, name_order, name_order-total, name_order-same, same_name-order, same_place-refl}
@@ -17,7 +17,7 @@ use Rattle.nuc_base.specs.Trees.{Nodes, IsVacant, StandsAt}
 use Rattle.nuc_base.specs.declared.node.Node.{Node}
 use Rattle.nuc_base.specs.declared.node.NodeId.{NodeId}
 use Rattle.nuc_base.specs.declared.node.Place.{Place}
-use Rattle.nuc_base.proofs.Maps.{same_or_not, get_cut_same, get_cut_other, after_cut}
+use Rattle.nuc_base.proofs.Maps.{same_or_not, get_put_same, get_put_other, get_cut_other, after_put, after_cut}
 use Rattle.nuc_index.specs.Rows.{IsGap, IsIn, Holds}
 use Rattle.nuc_index.specs.Places.{place_order, place_of, to_place, by_place, IsRisingByPlace, IsPlaceAt, IsPlaceGap, HasNode}
 use Rattle.nuc_index.proofs.Rows.{at_in, found, out_of_gap, tied_one, rises_alike, rises_insert, rises_remove, holds_insert, holds_remove}
@@ -129,3 +129,30 @@ module _ (m : Nodes) (x : NodeId) (n : Node) (there : get m x.0 ≡ Some n) (xs 
     pub with_rises : IsPlaceGap m n.place xs i → IsRisingByPlace m (list.insert xs i x)
     with_rises gap = rises_insert (by_place m) xs i x (λ y more. turned key_total (place_of (get m x.0)) (place_of (get m y.0)) more) rises_in_whole
         (subst (λ o. IsGap (λ y. option_cmp place_order (place_of (get m y.0)) (place_of o)) xs i) (sym there) gap)
+
+-- the list stays as it is where a node gets the place that it has
+module _ (m : Nodes) (x : ℕ) (k n : Node) (there : get m x ≡ Some k) (same : SamePlace k.place n.place) (xs : List NodeId) where
+  tie : (y : ℕ) → option_cmp place_order (place_of (get m y)) (place_of (get (insert m x n) y)) ≡ Equal
+  tie y = elim (same_or_not y x) [
+    | inl e ↦ subst (λ z. option_cmp place_order (place_of (get m z)) (place_of (get (insert m x n) z)) ≡ Equal) (sym e)
+        (ap₂ (λ a b. option_cmp place_order (place_of a) (place_of b)) there (get_put_same m x n) ∙ order_of_same k.place n.place same)
+    | inr apart ↦ ap (λ o. option_cmp place_order (place_of (get m y)) (place_of o)) (get_put_other m x n y apart) ∙ tied_itself key_total (place_of (get m y))
+  ]
+
+  pub rises_still : IsRisingByPlace m xs → IsRisingByPlace (insert m x n) xs
+  rises_still rise = rises_alike (by_place m) (by_place (insert m x n)) xs
+      (λ y z h l. key_total.congr (place_of (get m y.0)) (place_of (get (insert m x n) y.0)) (place_of (get m z.0)) (tie y.0)
+      ∙ alike_right key_total (place_of (get m z.0)) (place_of (get (insert m x n) z.0)) (place_of (get (insert m x n) y.0)) (tie z.0))
+      rise
+
+  pub holds_still : Holds (HasNode m) xs → Holds (HasNode (insert m x n)) xs
+  holds_still holds = record {
+    each = λ y h. elim (same_or_not y.0 x) [
+      | inl e ↦ (n, ap (get (insert m x n)) e ∙ get_put_same m x n)
+      | inr apart ↦ let has = holds.each y h in (has.0, get_put_other m x n y.0 apart ∙ has.1)
+    ];
+    every = λ y has. elim (after_put m x n y.0 has.0 has.1) [
+      | inl (e, f) ↦ holds.every y (k, ap (get m) e ∙ there)
+      | inr (apart, g) ↦ holds.every y (has.0, g)
+    ];
+  }

@@ -12,7 +12,7 @@ use Rattle.std.proofs.lemmas.Cmp.{nat_cmp_total, then_total, on_total, tied_itse
 use Rattle.nuc_base.specs.Trees.{Nodes, children}
 use Rattle.nuc_base.specs.declared.node.Node.{Node}
 use Rattle.nuc_base.specs.declared.node.NodeId.{NodeId}
-use Rattle.nuc_base.proofs.Maps.{same_or_not, one_node, get_cut_other, after_cut}
+use Rattle.nuc_base.proofs.Maps.{same_or_not, one_node, get_put_same, get_put_other, get_cut_other, after_put, after_cut}
 use Rattle.nuc_index.specs.Rows.{Rises, IsGap, IsIn, Holds}
 use Rattle.nuc_index.specs.Siblings.{sibling_order, IsRisingByParent, IsRowAt, IsRowGap, child_rows, IsRow}
 use Rattle.nuc_index.specs.declared.sibling.Sibling.{Sibling}
@@ -82,3 +82,16 @@ module _ (m : Nodes) (x : ℕ) (n : Node) (there : get m x ≡ Some n) (rs : Lis
       ])
       (n, there, refl)
       (λ r has. (has.0, (after_cut m x r.id.0 has.0 has.1).1, has.2))
+
+  -- the rows stay as they are where the node gets another with its parent
+  pub rows_still : (k : Node) → n.place.parent.0 ≡ k.place.parent.0 → Holds (IsRow m) rs → Holds (IsRow (map.insert m x k)) rs
+  rows_still k same holds = record {
+    each = λ r h. let has = holds.each r h in elim (same_or_not r.id.0 x) [
+      | inl e ↦ (k, ap (get (map.insert m x k)) e ∙ get_put_same m x k, sym same ∙ own_parent r has e)
+      | inr apart ↦ (has.0, get_put_other m x k r.id.0 apart ∙ has.1, has.2)
+    ];
+    every = λ r has. elim (after_put m x k r.id.0 has.0 has.1) [
+      | inl (e, f) ↦ holds.every r (n, ap (get m) e ∙ there, same ∙ ap (λ (l : Node). l.place.parent.0) (sym f) ∙ has.2)
+      | inr (apart, g) ↦ holds.every r (has.0, g, has.2)
+    ];
+  }

@@ -1,6 +1,7 @@
-ghost use Rattle.std.specs.Prelude.{◌≡◌, ◌<◌, ◌≤◌, ◌+◌, Some, OnOk, OnErr, slice_index_or, vec_len};
+ghost use Rattle.std.specs.Prelude.{◌≡◌, ◌<◌, ◌≤◌, ◌+◌, Some, MatchBool, OnOk, OnErr, slice_index_or, vec_len};
 ghost use Rattle.std.specs.FinMap as map;
 ghost use Rattle.nuc_base.specs.Legal.{IsFree};
+ghost use Rattle.nuc_base.specs.SamePlace.{SamePlace};
 ghost use Rattle.nuc_index.specs.Entries.{IsEntryAt, IsEntryGap, nodes_of};
 ghost use Rattle.nuc_index.specs.Indexes.{IsIndexed, room};
 
@@ -45,10 +46,36 @@ pub fn exchange(entries: &mut Vec<Entry>, indexes: &mut Indexes, at: usize, entr
     ensures before { map.get (nodes_of entries.old.items) entry.id.0 ≡ Some result }
     ensures spare { room entries.new indexes.new ≡ room entries.old indexes.old }
 {
+    if stays(&entries[at].node, &entry.node) {
+        let Entry { id: _, node } = mem::replace(&mut entries[at], entry);
+        return node;
+    }
+    move_over(entries, indexes, at, entry)
+}
+
+/// The same where the node gets another place.
+fn move_over(entries: &mut Vec<Entry>, indexes: &mut Indexes, at: usize, entry: Entry) -> Node
+    requires form { IsIndexed entries.old.items indexes.old }
+    requires at { IsEntryAt entry.id.0 entries.old.items at }
+    requires within { at < vec_len entries.old }
+    requires free { IsFree (nodes_of entries.old.items) entry.id.0 entry.node.place }
+    ensures form { IsIndexed entries.new.items indexes.new }
+    ensures nodes { nodes_of entries.new.items ≡ map.insert (nodes_of entries.old.items) entry.id.0 entry.node }
+    ensures before { map.get (nodes_of entries.old.items) entry.id.0 ≡ Some result }
+    ensures spare { room entries.new indexes.new ≡ room entries.old indexes.old }
+{
     indexes.leave(entries, &entries[at]);
     let Entry { id: _, node } = mem::replace(&mut entries[at], entry);
     indexes.enter(entries, &entries[at]);
     node
+}
+
+/// Whether the second has the place of the first, so that no list changes.
+fn stays(before: &Node, after: &Node) -> bool
+    ensures { MatchBool result (SamePlace before.now.place after.now.place) (¬ (SamePlace before.now.place after.now.place)) }
+{
+    let (one, other) = (&before.place, &after.place);
+    one.parent == other.parent && one.name.same(&other.name)
 }
 
 /// Takes out an entry, and hands it over. Its room is spare then.
