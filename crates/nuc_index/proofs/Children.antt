@@ -1,19 +1,16 @@
 -- The children of an identity are the rows with that parent, and these stand together.
-use Rattle.std.proofs.Common.{◌≡◌, ◌≢◌, ◌⊎◌, ◌<◌, ◌≤◌, ℕ, zero, suc, Bool, true, false, cond, ltb, ltb-true, ltb-false, List, [], ◌∷◌, map, drop, length, get_or, Option, Some, None, MatchBool, is_some, option_map, refl, sym, ap, subst, ◌∙◌, inl, inr, arith}
+use Rattle.std.proofs.Common.{◌≡◌, ◌≢◌, ◌<◌, ◌≤◌, ℕ, zero, suc, Bool, true, false, cond, ltb, ltb-true, ltb-false, List, [], ◌∷◌, map, drop, length, get_or, Option, Some, None, MatchBool, is_some, option_map, refl, sym, ap, subst, ◌∙◌, inl, inr, arith}
 use Rattle.std.specs.Prelude.{◌==◌, slice_get}
 use Rattle.std.specs.Cmp.{nat_cmp_is}
-use Rattle.std.specs.FinMap.{get}
 use Rattle.std.specs.List.{filter, AllByRecursion, AllWithin}
 use Rattle.std.specs.List.Sorted.{IsPartitionedBy, IsPartitionPoint}
 use Rattle.std.proofs.lemmas.List.Sorted.{IsPartitionedBy-ltb}
 use Rattle.std.specs.Ordering.{nat_cmp, ordering_then}
-use Rattle.std.specs.declared.cmp.Ordering.{Ordering}
 use Rattle.std.specs.declared.cmp.Ordering.TheVariants.{Less, Equal, Greater}
 use Rattle.std.proofs.lemmas.Bool.Decides.{eqb_tells}
 use Rattle.std.proofs.lemmas.Cmp.{ranked}
 use Rattle.std.proofs.lemmas.Option.{slice_get-get_or}
 use Rattle.nuc_base.specs.Trees.{Nodes, HasChild, NoChild, children}
-use Rattle.nuc_base.specs.declared.node.Node.{Node}
 use Rattle.nuc_base.specs.declared.node.NodeId.{NodeId}
 use Rattle.nuc_base.proofs.Children.{child_of, child_there, child_within, child_rises}
 use Rattle.nuc_base.proofs.Maps.{same_or_not}

@@ -1,5 +1,5 @@
 -- What the list of entries says of the map that it stands for.
-use Rattle.std.proofs.Common.{◌≡◌, ◌≢◌, ◌<◌, ◌≤◌, ℕ, zero, suc, Bool, true, false, cond, List, [], ◌∷◌, length, map, get_or, set, Option, Some, None, refl, sym, ap, ap₂, subst, ◌∙◌, inl, inr, arith}
+use Rattle.std.proofs.Common.{◌≡◌, ◌≢◌, ◌<◌, ℕ, zero, suc, Bool, true, false, cond, List, [], ◌∷◌, length, map, get_or, set, Option, Some, None, refl, sym, ap, ap₂, subst, ◌∙◌, inl, inr, arith}
 use Rattle.std.specs.Prelude.{T, ◌&&◌, slice_get, option_map}
 use Rattle.std.specs.Cmp.{unsigned_tied}
 use Rattle.std.specs.List.{insert, remove, AllByRecursion}
@@ -7,14 +7,14 @@ use Rattle.std.specs.FinMap as map
 use Rattle.std.specs.FinMap.{find, is_sorted, get-from_sorted, get-empty, entries-from_sorted, len-entries}
 use Rattle.std.specs.FinMap.Entries.{below_all}
 use Rattle.std.specs.Ordering.{nat_cmp, is_lt, eq_by_cmp, ordering_reverse}
-use Rattle.std.specs.declared.cmp.Ordering.TheVariants.{Less, Equal, Greater}
+use Rattle.std.specs.declared.cmp.Ordering.TheVariants.{Less, Equal}
 use Rattle.std.proofs.lemmas.Bool.Decides.{eqb_tells}
 use Rattle.std.proofs.lemmas.Cmp.{nat_cmp_total, tied_itself, ranked}
 use Rattle.std.proofs.lemmas.Option.{get_or_from_slice_get, slice_get_within}
 use Rattle.nuc_base.specs.Trees.{Nodes, IsThere}
 use Rattle.nuc_base.specs.declared.node.Node.{Node}
-use Rattle.nuc_base.proofs.Maps.{same_or_not, same_nodes, one_node, not_both, get_put_same, get_put_other, get_cut_same, get_cut_other, after_put, after_cut}
-use Rattle.nuc_index.specs.Rows.{Rises, IsAt, IsGap, IsIn, Holds}
+use Rattle.nuc_base.proofs.Maps.{same_or_not, same_nodes, one_node, not_both, get_put_same, get_put_other, get_cut_other, after_put, after_cut}
+use Rattle.nuc_index.specs.Rows.{IsIn, Holds}
 use Rattle.nuc_index.specs.Entries.{pairs, nodes_of, entry_order, IsRising, IsEntryAt, IsEntryGap, IsEntry}
 use Rattle.nuc_index.specs.declared.entry.Entry.{Entry}
 use Rattle.nuc_index.proofs.Rows.{all_in, at_in, nth_in, found, out_of_gap, set_is, gap_of_removed, rises_insert, rises_remove, holds_insert, holds_remove}

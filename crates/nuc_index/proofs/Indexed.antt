@@ -1,8 +1,8 @@
 -- The entries and their lists through one change of an entry.
-use Rattle.std.proofs.Common.{◌≡◌, ◌<◌, ℕ, List, length, get_or, set, Some, refl, sym, ap, ap₂, subst, ◌∙◌, inl, inr}
+use Rattle.std.proofs.Common.{◌≡◌, ◌<◌, ℕ, List, length, get_or, set, Some, refl, sym, ap, subst, ◌∙◌, inl, inr}
 use Rattle.std.specs.Prelude.{slice_get}
 use Rattle.std.specs.FinMap as map
-use Rattle.std.specs.List.{insert, remove}
+use Rattle.std.specs.List.{insert}
 use Rattle.std.proofs.lemmas.Option.{slice_get_read}
 use Rattle.nuc_base.specs.Legal.{IsFree}
 use Rattle.nuc_base.specs.SamePlace.{SamePlace}
@@ -19,7 +19,7 @@ use Rattle.nuc_index.specs.declared.indexes.Indexes.{Indexes}
 use Rattle.nuc_index.proofs.Places.{rises_still, holds_still}
 use Rattle.nuc_index.proofs.Siblings.{rows_still}
 use Rattle.nuc_index.proofs.Changes.{cut_of_put, cut_of_new}
-use Rattle.nuc_index.proofs.Entries.{entry_there, absent, new_rises, new_is, less_rises, less_is, over_rises, over_is}
+use Rattle.nuc_index.proofs.Entries.{entry_there, absent, new_rises, new_is, over_rises, over_is}
 
 -- the entry at a position, as a slice shows it
 pub there_at : (s es : List Entry) (i : ℕ) (e : Entry) → IsRising es → s ≡ es → i < length es → e ≡ get_or es i e → map.get (nodes_of s) e.id.0 ≡ Some e.node

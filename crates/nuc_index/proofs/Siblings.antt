@@ -1,20 +1,19 @@
 -- What the list of identities in order of parent and identity says of the tree that it is for.
-use Rattle.std.proofs.Common.{◌≡◌, ◌≢◌, ◌⊎◌, ◌<◌, ◌≤◌, ◌==◌, ℕ, zero, suc, Bool, true, false, cond, List, [], ◌∷◌, map, length, Option, Some, None, refl, sym, ap, ap₂, subst, ◌∙◌, inl, inr, arith}
-use Rattle.std.specs.Prelude.{slice_get, option_map}
+use Rattle.std.proofs.Common.{◌≡◌, ◌≤◌, ℕ, List, Some, refl, sym, ap, ap₂, subst, ◌∙◌, inl, inr}
+use Rattle.std.specs.Prelude.{slice_get}
 use Rattle.std.specs.Cmp.{IsTotalOrder}
-use Rattle.std.specs.FinMap.{get, keys}
+use Rattle.std.specs.FinMap.{get}
 use Rattle.std.specs.FinMap as map
-use Rattle.std.specs.List.{insert, remove, filter, AllByRecursion}
+use Rattle.std.specs.List.{insert, remove}
 use Rattle.std.specs.Ordering.{nat_cmp, ordering_index, ordering_then}
 use Rattle.std.specs.declared.cmp.Ordering.{Ordering}
 use Rattle.std.specs.declared.cmp.Ordering.TheVariants.{Less, Equal, Greater}
 use Rattle.std.proofs.lemmas.Cmp.{nat_cmp_total, then_total, on_total, tied_itself, ranked}
-use Rattle.nuc_base.specs.Trees.{Nodes, children}
+use Rattle.nuc_base.specs.Trees.{Nodes}
 use Rattle.nuc_base.specs.declared.node.Node.{Node}
-use Rattle.nuc_base.specs.declared.node.NodeId.{NodeId}
 use Rattle.nuc_base.proofs.Maps.{same_or_not, one_node, get_put_same, get_put_other, get_cut_other, after_put, after_cut}
-use Rattle.nuc_index.specs.Rows.{Rises, IsGap, IsIn, Holds}
-use Rattle.nuc_index.specs.Siblings.{sibling_order, IsRisingByParent, IsRowAt, IsRowGap, child_rows, IsRow}
+use Rattle.nuc_index.specs.Rows.{IsIn, Holds}
+use Rattle.nuc_index.specs.Siblings.{sibling_order, IsRisingByParent, IsRowAt, IsRowGap, IsRow}
 use Rattle.nuc_index.specs.declared.sibling.Sibling.{Sibling}
 use Rattle.nuc_index.proofs.Rows.{at_in, found, out_of_gap, rises_insert, rises_remove, holds_insert, holds_remove}
 use Rattle.nuc_index.proofs.Search.{index_rises, turned}

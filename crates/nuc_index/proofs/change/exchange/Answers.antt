@@ -1,6 +1,4 @@
-use Rattle.std.proofs.Common.{◌≡◌, ◌∙◌, ap, sym, subst, set, Some}
-use Rattle.std.specs.FinMap as map
-use Rattle.nuc_base.specs.SamePlace.{SamePlace}
+use Rattle.std.proofs.Common.{◌∙◌, ap, sym, subst, set, Some}
 use Rattle.nuc_index.specs.Entries.{nodes_of, IsRising}
 use Rattle.nuc_index.specs.Indexes.{IsIndex}
 use Rattle.nuc_index.proofs.Entries.{there, over_rises, over_is}

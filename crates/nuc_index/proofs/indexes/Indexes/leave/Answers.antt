@@ -1,6 +1,5 @@
-use Rattle.std.proofs.Common.{◌≡◌, sym, subst, Some}
+use Rattle.std.proofs.Common.{sym, subst}
 use Rattle.std.specs.FinMap as map
-use Rattle.std.specs.Prelude.{slice_get}
 use Rattle.nuc_index.specs.Entries.{nodes_of}
 use Rattle.nuc_index.specs.Places.{IsPlaceAt, IsPlaceGap, IsRisingByPlace, HasNode}
 use Rattle.nuc_index.specs.Rows.{Holds}

@@ -1,5 +1,4 @@
-use Rattle.std.proofs.Common.{◌≡◌, ◌∙◌, ap, sym, subst}
-use Rattle.std.specs.FinMap as map
+use Rattle.std.proofs.Common.{◌∙◌, ap, sym, subst}
 use Rattle.nuc_base.specs.Trees.{WellFormed}
 use Rattle.nuc_base.proofs.Forms.{empty_form}
 use Rattle.nuc_index.specs.Entries.{nodes_of, IsRising}

@@ -1,8 +1,8 @@
-use Rattle.std.proofs.Common.{◌≡◌, ◌∙◌, ap, ap₂, sym, subst, refl, MatchBool, true, false, Some}
+use Rattle.std.proofs.Common.{◌≡◌, ◌∙◌, ap, ap₂, sym, subst, MatchBool, Some}
 use Rattle.std.specs.FinMap as map
 use Rattle.nuc_base.specs.Trees.{WellFormed, HasChild, NoChild}
 use Rattle.nuc_base.proofs.Forms.{cut_keeps}
-use Rattle.nuc_index.specs.Entries.{nodes_of, IsEntryAt, IsEntryGap}
+use Rattle.nuc_index.specs.Entries.{IsEntryAt, IsEntryGap}
 use Rattle.nuc_index.proofs.Children.{first_row_tells}
 use Rattle.nuc_index.proofs.Entries.{absent, there, someone, present}
 use Rattle.nuc_index.proofs.tree.IndexTreeTreeLike.cut.Goals as goal

@@ -1,6 +1,5 @@
-use Rattle.std.proofs.Common.{◌≡◌, ◌∙◌, ◌≤◌, ◌+◌, ap, sym, subst, rules, arith, None}
+use Rattle.std.proofs.Common.{◌≡◌, ◌∙◌, ◌≤◌, ◌+◌, ap, sym, subst, rules}
 use Rattle.std.specs.FinMap as map
-use Rattle.std.proofs.lemmas.Grind.{common_steps}
 use Rattle.nuc_base.specs.Room.{room_for}
 use Rattle.nuc_base.specs.Trees.{WellFormed}
 use Rattle.nuc_base.proofs.Forms.{put_keeps}
