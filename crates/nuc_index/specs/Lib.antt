@@ -1,0 +1,5 @@
+pub mod Entries
+pub mod Indexes
+pub mod Places
+pub mod Rows
+pub mod Siblings
