@@ -121,7 +121,7 @@ drop_item es i e within is = drop_more es i e within ∙ ap (λ f. f ∷ drop (i
 -- CATCHING UP
 one_caught_up : (m : Nodes) (revisions : Numbers) (cursor : ℕ) (known : List Entry) (rev : ℕ) → cursor < rev → rev ≤ cursor + length known
     → caught_up rev (with_entries (record { tree = m; revisions = revisions; cursor = cursor; ahead = known }) (take 1 known))
-      ≡ caught_up rev (record { tree = m; revisions = revisions; cursor = cursor; ahead = known })
+    ≡ caught_up rev (record { tree = m; revisions = revisions; cursor = cursor; ahead = known })
 one_caught_up m revisions cursor [] rev lt le = absurd (omega arith)
 one_caught_up m revisions cursor (e ∷ es) rev lt le =
     let less : rev - cursor ≡ suc (rev - (cursor + 1)) = omega arith in

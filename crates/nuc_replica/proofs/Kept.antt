@@ -71,7 +71,7 @@ pub record Applied (s : UndoState) (e : Entry) (place end : ℕ) (t : UndoState)
   pub beyond : (i : ℕ) → end ≤ i → get t.laid i ≡ get s.laid i
 
 module _ (s t : UndoState) (r q : UndoLookupState) (c d : ℕ) (a : AheadState) (e : Entry)
-  (applied : Applied s e a.applied (length a.entries) t) (noted : Noted r e q) (follows : Follows (state_now s r c a) (e ∷ [])) where
+    (applied : Applied s e a.applied (length a.entries) t) (noted : Noted r e q) (follows : Follows (state_now s r c a) (e ∷ [])) where
   pub state_applied : state_now t q e.rev (with_next_applied a) ≡ with_entries (state_now s r c a) (e ∷ [])
   state_applied = same_remote _ _ _ _ e.rev (c + 1) _ _ applied.now noted.now follows.goes_on.0.rev (rest_passed a)
 

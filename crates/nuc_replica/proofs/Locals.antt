@@ -44,7 +44,7 @@ keys_without m ks x have y = elim (same_or_not y x) [
 pub no_keys : (m : Nodes) (ks : KeyMap) → m ≡ empty → ks ≡ empty → HaveKeys m ks
 no_keys m ks none no_key x =
     subst (λ (o : Option Node). HasKey o (get ks x)) (sym (ap (λ (n : Nodes). get n x) none ∙ get-empty nat_cmp x))
-      (subst (λ (o : Option ℕ). HasKey None o) (sym (ap (λ (n : KeyMap). get n x) no_key ∙ get-empty nat_cmp x)) tt)
+    (subst (λ (o : Option ℕ). HasKey None o) (sym (ap (λ (n : KeyMap). get n x) no_key ∙ get-empty nat_cmp x)) tt)
 
 -- x comes with a key, and another goes with its own
 moved : (ks : KeyMap) (x z k : ℕ) → x ≢ z → remove (insert ks z k) x ≡ insert (remove ks x) z k

@@ -229,7 +229,7 @@ kept_finished r l m s t fs c b d n f there local one synced two next count kept 
       room = record { local = omega (arith, size, one.spare, kept.room.local); synced = omega (arith, size, two.spare, kept.room.synced) };
       room_then = record { local = omega (arith, one.spare_then, kept.room_then.local); synced = omega (arith, two.spare_then, kept.room_then.synced) };
       laid = λ k g within. let g2 = get_or (without n fs.now) k g in
-        are_laid l.laid m.laid s.laid t.laid g2 (one.laid g2.op.number (others k g within)) (two.laid g2.op.number (others k g within)) (laid k g within);
+          are_laid l.laid m.laid s.laid t.laid g2 (one.laid g2.op.number (others k g within)) (two.laid g2.op.number (others k g within)) (laid k g within);
       laid_then = subst (λ laid. All (AreLaid laid t.laid_then) fs.settled) (sym one.laid_then) (subst (λ laid. All (AreLaid l.laid_then laid) fs.settled) (sym two.laid_then) kept.laid_then);
       local_untaken = λ i above. one.laid i (λ is. absurd (omega (arith, is, above, below, next))) ∙ kept.local_untaken i (omega (arith, above, next)) ∙ sym (ap (λ laid. get laid i) one.laid_then);
       synced_untaken = λ i above. two.laid i (λ is. absurd (omega (arith, is, above, below, next))) ∙ kept.synced_untaken i (omega (arith, above, next)) ∙ sym (ap (λ laid. get laid i) two.laid_then);
@@ -290,9 +290,9 @@ kept_laid r l m s t fs c d none local over synced beyond kept =
       room_then = record { local = omega (arith, local.spare_then, kept.room_then.local); synced = omega (arith, synced.spare, past, kept.room_then.synced) };
       laid = subst (All (AreLaid m.laid t.laid)) (sym none) (All-nil (AreLaid m.laid t.laid));
       laid_then = λ k f within.
-        let g = get_or fs.settled k f in
-        let old : g.op.number < c.next_op = omega (arith, below k f within, kept.later) in
-        are_laid l.laid_then m.laid_then s.laid_then t.laid_then g (over.before_then g.op.number old) (beyond.before_then g.op.number old) (kept.laid_then k f within);
+          let g = get_or fs.settled k f in
+          let old : g.op.number < c.next_op = omega (arith, below k f within, kept.later) in
+          are_laid l.laid_then m.laid_then s.laid_then t.laid_then g (over.before_then g.op.number old) (beyond.before_then g.op.number old) (kept.laid_then k f within);
       local_untaken = λ i above. over.fresh i (kept.local_untaken i above);
       synced_untaken = λ i above. beyond.fresh i (kept.synced_untaken i above);
       count = kept.count;

@@ -127,13 +127,7 @@ fn with(ops: Vec<Op>, op: Op) -> Result<Vec<Op>, AllocError>
 }
 
 /// Puts operations in flight, and begins those with these numbers.
-fn begin(
-    rt: &impl Abort,
-    alloc: Global,
-    client: &mut Client<Tree>,
-    ops: Vec<Op>,
-    numbers: &[u64],
-)
+fn begin(rt: &impl Abort, alloc: Global, client: &mut Client<Tree>, ops: Vec<Op>, numbers: &[u64])
     requires { All MayFly ops.items }
     ensures { client.new.now.remote ≡ client.old.now.remote }
 {
@@ -200,7 +194,11 @@ fn answer(
     client.take(alloc, number, taken, &[])
 }
 
-fn done(client: &mut Client<Tree>, edits: &mut Edits, number: u64) -> Result<DoneReply, AllocError> {
+fn done(
+    client: &mut Client<Tree>,
+    edits: &mut Edits,
+    number: u64,
+) -> Result<DoneReply, AllocError> {
     edits.reserve(1)?;
     Ok(client.done(number, edits))
 }
@@ -215,10 +213,17 @@ fn a_commit_is_applied_again_after_back(rt: HostRuntime) -> Result<(), Fail> {
     let alloc = rt.alloc();
     let mut client = fresh(alloc);
     let mut edits = Edits::new(alloc);
-    let ops = with(Vec::new(alloc), up(alloc, NodeId(1), &folder(alloc, b"d")?)?)?;
+    let ops = with(
+        Vec::new(alloc),
+        up(alloc, NodeId(1), &folder(alloc, b"d")?)?,
+    )?;
     begin(&rt, alloc, &mut client, ops, &[1]);
     assert!(rt; client.fly(alloc, Vec::new(alloc)) == FlyReply::Busy(1));
-    assert!(rt; client.in_flight(1).is_some_and(|op| op.id == NodeId(1) && op.base == 0));
+    assert!(rt;
+        client
+            .in_flight(1)
+            .is_some_and(|op| op.id == NodeId(1) && op.base == 0)
+    );
     assert!(rt; client.start(1) == Err(NoSuchOp) && client.start(2) == Err(NoSuchOp));
     let entry = next(&rt, &client, NodeId(1), folder(alloc, b"d")?)?;
     take(&rt, alloc, &mut client, 1, Taken::Accepted(1), &[entry])?;
@@ -226,7 +231,10 @@ fn a_commit_is_applied_again_after_back(rt: HostRuntime) -> Result<(), Fail> {
     client.settle();
     for _ in 0..2u8 {
         assert!(rt; done(&mut client, &mut edits, 1)? == DoneReply::Applied);
-        assert_eq!(rt; (client.cursor(), client.flying(), client.changes()), (1, 0, 0));
+        assert_eq!(rt;
+            (client.cursor(), client.flying(), client.changes()),
+            (1, 0, 0)
+        );
         assert!(rt; is_named(client.remote(), 1, b"d") && is_named(client.synced(), 1, b"d"));
         assert!(rt; client.local().len() == 0);
         assert!(rt; done(&mut client, &mut edits, 1)? == DoneReply::NoSuchOp);
@@ -248,15 +256,45 @@ fn operations_end_as_they_were_taken(rt: HostRuntime) -> Result<(), Fail> {
     let ops = with(ops, down(alloc, NodeId(1), None, &b)?)?;
     let ops = with(ops, up(alloc, NodeId(3), &b)?)?;
     begin(&rt, alloc, &mut client, ops, &[1, 2, 3, 4]);
-    answer(&rt, alloc, &mut client, 1, Taken::Folder(Outcome::Made(Key(5))))?;
+    answer(
+        &rt,
+        alloc,
+        &mut client,
+        1,
+        Taken::Folder(Outcome::Made(Key(5))),
+    )?;
     answer(&rt, alloc, &mut client, 2, Taken::Folder(Outcome::Taken))?;
-    answer(&rt, alloc, &mut client, 3, Taken::Folder(Outcome::Made(Key(6))))?;
-    answer(&rt, alloc, &mut client, 4, Taken::Refused(Refusal::NoParent))?;
-    assert!(rt; answer(&rt, alloc, &mut client, 4, Taken::Refused(Refusal::NoParent)) == Err(TakeFault::NoSuchOp));
+    answer(
+        &rt,
+        alloc,
+        &mut client,
+        3,
+        Taken::Folder(Outcome::Made(Key(6))),
+    )?;
+    answer(
+        &rt,
+        alloc,
+        &mut client,
+        4,
+        Taken::Refused(Refusal::NoParent),
+    )?;
+    assert!(rt;
+        answer(
+            &rt,
+            alloc,
+            &mut client,
+            4,
+            Taken::Refused(Refusal::NoParent)
+        ) == Err(TakeFault::NoSuchOp)
+    );
     assert!(rt; done(&mut client, &mut edits, 1)? == DoneReply::Applied);
-    assert!(rt; done(&mut client, &mut edits, 2)? == DoneReply::Dropped(Reason::Folder(Outcome::Taken)));
+    assert!(rt;
+        done(&mut client, &mut edits, 2)? == DoneReply::Dropped(Reason::Folder(Outcome::Taken))
+    );
     assert!(rt; done(&mut client, &mut edits, 3)? == DoneReply::Stale);
-    assert!(rt; done(&mut client, &mut edits, 4)? == DoneReply::Dropped(Reason::Server(Refusal::NoParent)));
+    assert!(rt;
+        done(&mut client, &mut edits, 4)? == DoneReply::Dropped(Reason::Server(Refusal::NoParent))
+    );
     assert_eq!(rt; (client.flying(), client.changes()), (0, 1));
     assert!(rt; is_named(client.local(), 1, b"a") && client.local().len() == 1);
     assert!(rt; is_named(client.synced(), 1, b"a") && client.synced().len() == 1);
@@ -273,7 +311,13 @@ fn a_move_from_the_server_keeps_its_identity(rt: HostRuntime) -> Result<(), Fail
     pull(&rt, alloc, &mut client, NodeId(1), folder(alloc, b"d")?)?;
     let ops = with(Vec::new(alloc), down(alloc, NodeId(1), None, &d)?)?;
     begin(&rt, alloc, &mut client, ops, &[1]);
-    answer(&rt, alloc, &mut client, 1, Taken::Folder(Outcome::Made(Key(5))))?;
+    answer(
+        &rt,
+        alloc,
+        &mut client,
+        1,
+        Taken::Folder(Outcome::Made(Key(5))),
+    )?;
     assert!(rt; done(&mut client, &mut edits, 1)? == DoneReply::Applied);
     client.restart();
     pull(&rt, alloc, &mut client, NodeId(1), folder(alloc, b"e")?)?;

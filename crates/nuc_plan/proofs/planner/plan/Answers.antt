@@ -31,8 +31,8 @@ returns-then-not-is_empty g c =
     let ops = c.in_ok-first_fit.field-0 in
     let found = subst (λ f. IsFound same r l s f) c.in-Due.is c.in_ok-op.ensures in
     let some : due ≢ [] = λ e.
-        let short : length due ≡ 0 = ap length e in
-        grind (arith, common_steps, short, c.in-Due.due.ok.0, c.is_empty.ensures, c.if-not-is_empty.true) in
+    let short : length due ≡ 0 = ap length e in
+    grind (arith, common_steps, short, c.in-Due.due.ok.0, c.is_empty.ensures, c.if-not-is_empty.true) in
     let is : IsPlan same r l s next (plan.Batch ops) = record {
       due = due;
       all = found.0;
@@ -81,8 +81,12 @@ returns g c =
     let none : c.in-Due.due.items ≡ [] = nil_from_length c.in-Due.due.items short in
     let no_mend = subst (λ o. MatchOption o (NoRemedy same r l s) (IsMend same r l s next)) c.in-None.is c.in_ok-op-2.ensures in
     let fit : FitTogether r l s = record {
-      remote = c.requires.remote; local = c.requires.local; synced = c.requires.synced;
-      remote_local = c.requires.remote_local; remote_synced = c.requires.remote_synced; local_synced = c.requires.local_synced;
+      remote = c.requires.remote;
+      local = c.requires.local;
+      synced = c.requires.synced;
+      remote_local = c.requires.remote_local;
+      remote_synced = c.requires.remote_synced;
+      local_synced = c.requires.local_synced;
     } in
     let is : IsPlan same r l s next plan.Empty = mend_or_equal same r l s fit (nothing_due same r l s c.in-Due.due.items found.0 none) no_mend in
     record {

@@ -15,5 +15,5 @@ invariant_of-self g c =
     let taken = c.cut_key.ensures in
     let lies = laid_inside _ _ _ c.self.view_is c.args.number _ c.requires.put in
     sound_moved c.self.inside.tree c.self.inside.keys c.self.invariant c.cut.new.self c.put_key.new.keys cut.form given.sound (cut.settled ∙ put.settled)
-        (given.changed.settled ∙ taken.changed.settled) c.args.id.0 c.args.to.0 c.in-Some.key.0 _ _ lies c.requires.other
-        (cut.ok ∙ ap (λ m. remove m c.args.id.0) put.now) (given.now ∙ ap (λ ks. insert ks c.args.to.0 c.in-Some.key.0) taken.now)
+    (given.changed.settled ∙ taken.changed.settled) c.args.id.0 c.args.to.0 c.in-Some.key.0 _ _ lies c.requires.other
+    (cut.ok ∙ ap (λ m. remove m c.args.id.0) put.now) (given.now ∙ ap (λ ks. insert ks c.args.to.0 c.in-Some.key.0) taken.now)

@@ -17,7 +17,9 @@ invariant_of-self g c =
     let some : 0 < length (ahead_now a) = within (ahead_now a) 0 entry (sym first) in
     let size = length-drop a.applied a.entries in
     let applied : Applied inside.tree entry a.applied (length a.entries) c.apply_laid.new.tree = record {
-      now = change.now; changed = change.changed; settled = change.settled;
+      now = change.now;
+      changed = change.changed;
+      settled = change.settled;
       later = λ i lt. change.laid i (λ same. absurd (omega (arith, same, lt, c.next_place.ensures)));
       beyond = λ i le. change.laid i (λ same. absurd (omega (arith, same, le, c.next_place.ensures, some, size)));
     } in
@@ -25,4 +27,4 @@ invariant_of-self g c =
     let follows = ahead_follows (state_now inside.tree inside.revisions inside.cursor a) entry first c.self.invariant.now in
     subst (λ b. IsKept c.apply_laid.new.tree c.note.new.revisions entry.rev inside.settled_cursor b) (sym c.pass.ensures)
     (kept_applied inside.tree c.apply_laid.new.tree inside.revisions c.note.new.revisions inside.cursor inside.settled_cursor a entry applied noted follows c.self.invariant
-      (omega (arith, some, size, c.self.invariant.tree_room.now)) (omega (arith, some, size, c.self.invariant.revisions_room.now)))
+    (omega (arith, some, size, c.self.invariant.tree_room.now)) (omega (arith, some, size, c.self.invariant.revisions_room.now)))

@@ -23,11 +23,11 @@ invariant_of-self-2 g c =
     let laid = c.in_ok-lay_by.ensures in
     let end = c.end_place.ensures.end in
     let beyond : LaidBeyond c.reserve.new.self (length a.entries) c.lay_by.new.tree = subst (λ n. LaidBeyond c.reserve.new.self n c.lay_by.new.tree) end
-        (record { keeps = laid.keeps; before = laid.before; before_then = laid.before_then; untaken = laid.untaken }) in
+    (record { keeps = laid.keeps; before = laid.before; before_then = laid.before_then; untaken = laid.untaken }) in
     let nodes : AreLaidFrom (length a.entries) c.lay_by.new.tree.laid more =
-        subst (AreLaidFrom (length a.entries) c.lay_by.new.tree.laid) c.deref.ensures.value (subst (λ n. AreLaidFrom n c.lay_by.new.tree.laid c.deref.result.now) end laid.ok) in
+    subst (AreLaidFrom (length a.entries) c.lay_by.new.tree.laid) c.deref.ensures.value (subst (λ n. AreLaidFrom n c.lay_by.new.tree.laid c.deref.result.now) end laid.ok) in
     let new = new_entries more c.in-Some.more.now c.rest.result.now (ahead_now a) news c.in_ok-more.ensures c.in-Some.ensures.lookup.0.2 c.rest.ensures.rest in
     subst (λ b. IsKept c.lay_by.new.tree c.reserve-2.new.self inside.cursor inside.settled_cursor b) (sym c.in_ok-add.ensures.ok)
     (kept_heard inside.tree c.reserve.new.self c.lay_by.new.tree inside.revisions c.reserve-2.new.self inside.cursor inside.settled_cursor a news more c.rest.ensures.places
-      c.in_ok-reserve.ensures.keeps (record { now = room.now; past = room.past; spare = room.spare }) beyond new
-      (subst (λ (s : RemoteStates). Follows s.now news) (sym c.self.view_is) c.requires) c.in_ok-reserve.ensures.ok room.ok nodes c.self.invariant)
+    c.in_ok-reserve.ensures.keeps (record { now = room.now; past = room.past; spare = room.spare }) beyond new
+    (subst (λ (s : RemoteStates). Follows s.now news) (sym c.self.view_is) c.requires) c.in_ok-reserve.ensures.ok room.ok nodes c.self.invariant)

@@ -24,6 +24,6 @@ loop-entry-preserved g c =
       follows = subst (λ (s : RemoteState). Follows s rest) (sym one.ok) (follows_rest now entry rest (subst (Follows now) front c.loop-entry.invariant.follows));
       same = ap (λ (s : RemoteState). with_entries s rest) one.ok ∙ sym (entry_by_entry now entry rest) ∙ ap (with_entries now) (sym front) ∙ c.loop-entry.invariant.same;
       moved = one.ok ∙ ap (λ (s : RemoteState). with_entries s (entry ∷ [])) c.loop-entry.invariant.moved ∙ one_more c.args.self.now.now (take i page) entry
-        ∙ sym (ap (with_entries c.args.self.now.now) (take_more page i entry (omega arith) ∙ ap (λ e. take i page ++ e ∷ []) (sym c.entry-item.is)));
+          ∙ sym (ap (with_entries c.args.self.now.now) (take_more page i entry (omega arith) ∙ ap (λ e. take i page ++ e ∷ []) (sym c.entry-item.is)));
       settled = one.settled ∙ c.loop-entry.invariant.settled;
     }

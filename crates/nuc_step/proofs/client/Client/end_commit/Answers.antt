@@ -32,7 +32,7 @@ invariant_of-self g c =
     let inside = c.self.inside in
     let it = ending_inside _ _ c.args.number (came.Accepted c.args.rev) c.in-Some.op.now c.self.view_is c.requires c.in-Some.ensures in
     kept_ended c.catch_up.new.self inside.local inside.local inside.synced c.land_commit-landed.new.synced inside.flights c.finish.new.self inside.counts inside.counts inside.settled_counts
-        c.args.number (came.Accepted c.args.rev) c.in-Some.op.now c.finish.result it c.finish.ensures.finished c.finish.ensures.settled
-        c.trees_are_sound.ensures.local (same_one c.in-Some.op.now.number inside.local) c.trees_are_sound.ensures.synced c.land_commit-landed.ensures.changed refl (omega arith)
-        (kept_caught_up inside.remote c.catch_up.new.self inside.local inside.synced inside.flights inside.counts inside.settled_counts c.args.rev
-            c.catch_up.ensures.now c.catch_up.ensures.settled c.self.invariant)
+    c.args.number (came.Accepted c.args.rev) c.in-Some.op.now c.finish.result it c.finish.ensures.finished c.finish.ensures.settled
+    c.trees_are_sound.ensures.local (same_one c.in-Some.op.now.number inside.local) c.trees_are_sound.ensures.synced c.land_commit-landed.ensures.changed refl (omega arith)
+    (kept_caught_up inside.remote c.catch_up.new.self inside.local inside.synced inside.flights inside.counts inside.settled_counts c.args.rev
+    c.catch_up.ensures.now c.catch_up.ensures.settled c.self.invariant)

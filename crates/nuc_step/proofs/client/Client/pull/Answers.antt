@@ -11,7 +11,7 @@ invariant_of-self g c =
     let follows = subst (λ (s : ClientStates). Follows s.now.remote page) (sym c.self.view_is) c.requires in
     let moved = c.in_err-pull.ensures.err in
     kept_pulled inside.remote c.pull.new.self inside.local inside.synced inside.flights inside.counts inside.settled_counts (take moved.0 page)
-        moved.1 c.pull.ensures.settled (front_follows moved.0 inside.remote.now page follows) c.self.invariant
+    moved.1 c.pull.ensures.settled (front_follows moved.0 inside.remote.now page follows) c.self.invariant
 
 pub invariant_of-self-2 : goal.invariant_of-self-2
 invariant_of-self-2 g c =
@@ -19,4 +19,4 @@ invariant_of-self-2 g c =
     let page = c.args.page.now in
     let follows = subst (λ (s : ClientStates). Follows s.now.remote page) (sym c.self.view_is) c.requires in
     kept_pulled inside.remote c.pull.new.self inside.local inside.synced inside.flights inside.counts inside.settled_counts page
-        c.in_ok-pull.ensures.ok c.pull.ensures.settled follows c.self.invariant
+    c.in_ok-pull.ensures.ok c.pull.ensures.settled follows c.self.invariant
