@@ -14,14 +14,21 @@ use Rattle.nuc_plan.specs.Walk.{AllPassed, IsDueBelow, IsNext}
 use Rattle.nuc_plan.proofs.DueFacts.{due_anywhere, due_here, due_id, one_due}
 
 module _ (same : ℕ → ℕ → Bool) (r l s : Nodes) where
-  pub none_yet : IsDueBelow same r l s 0 []
-  none_yet = record {
+  pub none_yet : (due : List Op) → due ≡ [] → IsDueBelow same r l s 0 due
+  none_yet due e = subst (λ ops. IsDueBelow same r l s 0 ops) (sym e) (record {
     rising = λ i j d less below. absurd (omega (arith, below));
     each = All-nil _;
     within = All-nil _;
     outside = All-nil _;
     all = λ x op below due. absurd (omega (arith, below));
-  }
+  })
+
+  -- what is due, and that nothing is, by the answer
+  pub due_found : (x : ℕ) (found : Option Op) (op : Op) → found ≡ Some op → MatchOption found (NothingDue same r l s x) (IsDue same r l s x) → IsDue same r l s x op
+  due_found x found op e told = subst (λ o. MatchOption o (NothingDue same r l s x) (IsDue same r l s x)) e told
+
+  pub none_found : (x : ℕ) (found : Option Op) → found ≡ None → MatchOption found (NothingDue same r l s x) (IsDue same r l s x) → NothingDue same r l s x
+  none_found x found e told = subst (λ o. MatchOption o (NothingDue same r l s x) (IsDue same r l s x)) e told
 
   -- up to the next identity what is due stays the same
   before_next : (below x y : ℕ) (op : Op) → IsNext r l s below x → y < suc x → IsDue same r l s y op → (y < below) ⊎ (y ≡ x)
@@ -45,12 +52,12 @@ module _ (same : ℕ → ℕ → Bool) (r l s : Nodes) where
   }
 
   -- an operation is due there, and is carried out somewhere
-  pub one_more : (below x : ℕ) (due : List Op) (op : Op) → IsNext r l s below x → IsDue same r l s x op → op.effect ≢ Nothing
-      → IsDueBelow same r l s below due → IsDueBelow same r l s (suc x) (due ++ op ∷ [])
-  one_more below x due op next is outside before =
+  pub one_more : (below x : ℕ) (due after : List Op) (op : Op) → after ≡ due ++ op ∷ [] → IsNext r l s below x → IsDue same r l s x op
+      → op.effect ≢ Nothing → IsDueBelow same r l s below due → IsDueBelow same r l s (suc x) after
+  one_more below x due after op grown next is outside before =
       let id : op.id.0 ≡ x = due_id same r l s x op is in
       let from = next.from in
-      record {
+      subst (λ ops. IsDueBelow same r l s (suc x) ops) (sym grown) (record {
         rising = all_pairs_push (λ a b. a.id.0 < b.id.0) due op before.rising (λ k d less. let low = before.within k d less in omega (arith, low, from, id));
         each = All-push (λ o. IsDue same r l s o.id.0 o) due op before.each (due_here same r l s x op is);
         within = All-push (λ o. o.id.0 < suc x) due op
@@ -62,7 +69,7 @@ module _ (same : ℕ → ℕ → Bool) (r l s : Nodes) where
               let one : op ≡ other = one_due same r l s x op other is (subst (λ z. IsDue same r l s z other) here its) in
               subst (λ o. Contains (due ++ op ∷ []) o) one (Contains-push due op)
         ];
-      }
+      })
 
   -- the first that is carried out nowhere
   pub first_record_step : (below x : ℕ) (due : List Op) (op : Op) → IsNext r l s below x → IsDue same r l s x op → op.effect ≡ Nothing
