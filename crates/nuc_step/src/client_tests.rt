@@ -127,7 +127,13 @@ fn with(ops: Vec<Op>, op: Op) -> Result<Vec<Op>, AllocError>
 }
 
 /// Puts operations in flight, and begins those with these numbers.
-fn begin(rt: &impl Abort, alloc: Global, client: &mut Client<Tree>, ops: Vec<Op>, numbers: &[u64])
+fn begin(
+    rt: &impl Abort,
+    alloc: Global,
+    client: &mut Client<Tree>,
+    ops: Vec<Op>,
+    numbers: &[u64],
+)
     requires { All MayFly ops.items }
     ensures { client.new.now.remote ≡ client.old.now.remote }
 {
@@ -194,160 +200,195 @@ fn answer(
     client.take(alloc, number, taken, &[])
 }
 
-fn done(
+/// The same for several of them, each begun.
+fn answer_all(
+    rt: &impl Abort,
+    alloc: Global,
+    client: &mut Client<Tree>,
+    answers: &[(u64, Taken)],
+)
+    requires { client.old.now.remote.ahead ≡ [] }
+{
+    for &(number, taken) in answers {
+        assert!(rt; answer(rt, alloc, client, number, taken) == Ok(()));
+    }
+}
+
+/// A Done of an operation has this reply.
+fn ends(
+    rt: &impl Abort,
     client: &mut Client<Tree>,
     edits: &mut Edits,
     number: u64,
-) -> Result<DoneReply, AllocError> {
+    reply: DoneReply,
+) -> Result<(), AllocError> {
     edits.reserve(1)?;
-    Ok(client.done(number, edits))
+    assert_eq!(rt; client.done(number, edits), reply);
+    Ok(())
 }
 
-fn is_named(tree: &Tree, id: u64, name: &[u8]) -> bool {
-    tree.get(NodeId(id))
-        .is_some_and(|node| node.place.name.bytes() == name)
+/// The client's cursor, how many operations are in flight, and how often Local has changed.
+fn stands(rt: &impl Abort, client: &Client<Tree>, cursor: u64, flying: u64, changes: u64) {
+    assert_eq!(rt; client.cursor(), cursor);
+    assert_eq!(rt; client.flying(), flying);
+    assert_eq!(rt; client.changes(), changes);
+}
+
+/// The trees of a client.
+#[derive(Clone, Copy)]
+enum Side {
+    Remote,
+    Local,
+    Synced,
+}
+
+/// The first identity is alone in one of the trees, with this name; or, for the empty name, the tree is empty.
+fn has(rt: &impl Abort, client: &Client<Tree>, side: Side, name: &[u8]) {
+    let tree = match side {
+        Side::Remote => client.remote(),
+        Side::Local => client.local(),
+        Side::Synced => client.synced(),
+    };
+    match tree.get(NodeId(1)) {
+        Some(node) => assert!(rt; tree.len() == 1 && node.place.name.bytes() == name),
+        None => assert!(rt; tree.len() == 0 && name.is_empty()),
+    }
+}
+
+/// The commit of a new folder as the first identity.
+fn one_up(alloc: Global, name: &[u8]) -> Result<Vec<Op>, Fail>
+    ensures { IfOk result (λ ops. All MayFly ops.items) }
+{
+    let node = folder(alloc, name)?;
+    Ok(with(Vec::new(alloc), up(alloc, NodeId(1), &node)?)?)
+}
+
+/// What the server has at the first identity comes to the folder.
+fn one_down(alloc: Global, old: Option<&Node>, name: &[u8]) -> Result<Vec<Op>, Fail>
+    ensures { IfOk result (λ ops. All MayFly ops.items) }
+{
+    let node = folder(alloc, name)?;
+    Ok(with(Vec::new(alloc), down(alloc, NodeId(1), old, &node)?)?)
+}
+
+/// A client with a commit of the folder `d` in flight, which was taken as the first revision.
+fn with_taken_commit(rt: &impl Abort, alloc: Global) -> Result<Client<Tree>, Fail> {
+    let mut client = fresh(alloc);
+    begin(rt, alloc, &mut client, one_up(alloc, b"d")?, &[1]);
+    let entry = next(rt, &client, NodeId(1), folder(alloc, b"d")?)?;
+    take(rt, alloc, &mut client, 1, Taken::Accepted(1), &[entry])?;
+    Ok(client)
 }
 
 #[test]
-fn a_commit_is_applied_again_after_back(rt: HostRuntime) -> Result<(), Fail> {
-    let alloc = rt.alloc();
-    let mut client = fresh(alloc);
-    let mut edits = Edits::new(alloc);
-    let ops = with(
-        Vec::new(alloc),
-        up(alloc, NodeId(1), &folder(alloc, b"d")?)?,
-    )?;
-    begin(&rt, alloc, &mut client, ops, &[1]);
-    assert!(rt; client.fly(alloc, Vec::new(alloc)) == FlyReply::Busy(1));
-    assert!(rt;
-        client
-            .in_flight(1)
-            .is_some_and(|op| op.id == NodeId(1) && op.base == 0)
-    );
-    assert!(rt; client.start(1) == Err(NoSuchOp) && client.start(2) == Err(NoSuchOp));
-    let entry = next(&rt, &client, NodeId(1), folder(alloc, b"d")?)?;
-    take(&rt, alloc, &mut client, 1, Taken::Accepted(1), &[entry])?;
-    assert_eq!(rt; (client.cursor(), client.flying()), (0, 1));
+fn a_done_is_applied_again_after_back(rt: HostRuntime) -> Result<(), Fail> {
+    let mut client = with_taken_commit(&rt, rt.alloc())?;
+    let mut edits = Edits::new(rt.alloc());
     client.settle();
     for _ in 0..2u8 {
-        assert!(rt; done(&mut client, &mut edits, 1)? == DoneReply::Applied);
-        assert_eq!(rt;
-            (client.cursor(), client.flying(), client.changes()),
-            (1, 0, 0)
-        );
-        assert!(rt; is_named(client.remote(), 1, b"d") && is_named(client.synced(), 1, b"d"));
-        assert!(rt; client.local().len() == 0);
-        assert!(rt; done(&mut client, &mut edits, 1)? == DoneReply::NoSuchOp);
+        stands(&rt, &client, 0, 1, 0);
+        ends(&rt, &mut client, &mut edits, 1, DoneReply::Applied)?;
+        stands(&rt, &client, 1, 0, 0);
+        has(&rt, &client, Side::Remote, b"d");
+        has(&rt, &client, Side::Local, b"");
+        has(&rt, &client, Side::Synced, b"d");
         client.back();
-        assert_eq!(rt; (client.cursor(), client.flying()), (0, 1));
-        assert!(rt; client.remote().len() == 0 && client.synced().len() == 0);
     }
-    Ok(())
-}
-
-#[test]
-fn operations_end_as_they_were_taken(rt: HostRuntime) -> Result<(), Fail> {
-    let alloc = rt.alloc();
-    let mut client = fresh(alloc);
-    let mut edits = Edits::new(alloc);
-    let (a, b) = (folder(alloc, b"a")?, folder(alloc, b"b")?);
-    let ops = with(Vec::new(alloc), down(alloc, NodeId(1), None, &a)?)?;
-    let ops = with(ops, down(alloc, NodeId(2), None, &b)?)?;
-    let ops = with(ops, down(alloc, NodeId(1), None, &b)?)?;
-    let ops = with(ops, up(alloc, NodeId(3), &b)?)?;
-    begin(&rt, alloc, &mut client, ops, &[1, 2, 3, 4]);
-    answer(
-        &rt,
-        alloc,
-        &mut client,
-        1,
-        Taken::Folder(Outcome::Made(Key(5))),
-    )?;
-    answer(&rt, alloc, &mut client, 2, Taken::Folder(Outcome::Taken))?;
-    answer(
-        &rt,
-        alloc,
-        &mut client,
-        3,
-        Taken::Folder(Outcome::Made(Key(6))),
-    )?;
-    answer(
-        &rt,
-        alloc,
-        &mut client,
-        4,
-        Taken::Refused(Refusal::NoParent),
-    )?;
-    assert!(rt;
-        answer(
-            &rt,
-            alloc,
-            &mut client,
-            4,
-            Taken::Refused(Refusal::NoParent)
-        ) == Err(TakeFault::NoSuchOp)
-    );
-    assert!(rt; done(&mut client, &mut edits, 1)? == DoneReply::Applied);
-    assert!(rt;
-        done(&mut client, &mut edits, 2)? == DoneReply::Dropped(Reason::Folder(Outcome::Taken))
-    );
-    assert!(rt; done(&mut client, &mut edits, 3)? == DoneReply::Stale);
-    assert!(rt;
-        done(&mut client, &mut edits, 4)? == DoneReply::Dropped(Reason::Server(Refusal::NoParent))
-    );
-    assert_eq!(rt; (client.flying(), client.changes()), (0, 1));
-    assert!(rt; is_named(client.local(), 1, b"a") && client.local().len() == 1);
-    assert!(rt; is_named(client.synced(), 1, b"a") && client.synced().len() == 1);
-    assert!(rt; client.keys().key_of(NodeId(1)) == Some(Key(5)) && client.keys().len() == 1);
-    Ok(())
-}
-
-#[test]
-fn a_move_from_the_server_keeps_its_identity(rt: HostRuntime) -> Result<(), Fail> {
-    let alloc = rt.alloc();
-    let mut client = fresh(alloc);
-    let mut edits = Edits::new(alloc);
-    let (d, e) = (folder(alloc, b"d")?, folder(alloc, b"e")?);
-    pull(&rt, alloc, &mut client, NodeId(1), folder(alloc, b"d")?)?;
-    let ops = with(Vec::new(alloc), down(alloc, NodeId(1), None, &d)?)?;
-    begin(&rt, alloc, &mut client, ops, &[1]);
-    answer(
-        &rt,
-        alloc,
-        &mut client,
-        1,
-        Taken::Folder(Outcome::Made(Key(5))),
-    )?;
-    assert!(rt; done(&mut client, &mut edits, 1)? == DoneReply::Applied);
-    client.restart();
-    pull(&rt, alloc, &mut client, NodeId(1), folder(alloc, b"e")?)?;
-    assert!(rt; is_named(client.remote(), 1, b"e") && is_named(client.local(), 1, b"d"));
-    let ops = with(Vec::new(alloc), down(alloc, NodeId(1), Some(&d), &e)?)?;
-    begin(&rt, alloc, &mut client, ops, &[2]);
-    answer(&rt, alloc, &mut client, 2, Taken::Folder(Outcome::Ok))?;
-    assert!(rt; done(&mut client, &mut edits, 2)? == DoneReply::Applied);
-    assert!(rt; is_named(client.local(), 1, b"e") && is_named(client.synced(), 1, b"e"));
-    assert!(rt; client.keys().key_of(NodeId(1)) == Some(Key(5)));
-    assert_eq!(rt; (client.cursor(), client.changes()), (2, 2));
+    has(&rt, &client, Side::Remote, b"");
+    has(&rt, &client, Side::Synced, b"");
     Ok(())
 }
 
 #[test]
 fn a_restart_forgets_what_is_in_flight(rt: HostRuntime) -> Result<(), Fail> {
-    let alloc = rt.alloc();
-    let mut client = fresh(alloc);
-    let mut edits = Edits::new(alloc);
-    let d = folder(alloc, b"d")?;
-    let ops = with(Vec::new(alloc), up(alloc, NodeId(1), &d)?)?;
-    begin(&rt, alloc, &mut client, ops, &[1]);
-    let entry = next(&rt, &client, NodeId(1), folder(alloc, b"d")?)?;
-    take(&rt, alloc, &mut client, 1, Taken::Accepted(1), &[entry])?;
+    let mut client = with_taken_commit(&rt, rt.alloc())?;
+    let mut edits = Edits::new(rt.alloc());
     client.restart();
-    assert_eq!(rt; (client.flying(), client.cursor()), (0, 0));
-    assert!(rt; done(&mut client, &mut edits, 1)? == DoneReply::NoSuchOp);
-    assert!(rt; client.in_flight(1).is_none() && client.synced().len() == 0);
-    let ops = with(Vec::new(alloc), up(alloc, NodeId(1), &d)?)?;
-    begin(&rt, alloc, &mut client, ops, &[2]);
-    assert_eq!(rt; client.flying(), 1);
+    stands(&rt, &client, 0, 0, 0);
+    ends(&rt, &mut client, &mut edits, 1, DoneReply::NoSuchOp)?;
+    begin(&rt, rt.alloc(), &mut client, one_up(rt.alloc(), b"d")?, &[2]);
+    stands(&rt, &client, 0, 1, 0);
+    Ok(())
+}
+
+#[test]
+fn an_operation_goes_from_stage_to_stage(rt: HostRuntime) -> Result<(), Fail> {
+    let mut client = fresh(rt.alloc());
+    begin(&rt, rt.alloc(), &mut client, one_up(rt.alloc(), b"d")?, &[]);
+    assert!(rt; client.fly(rt.alloc(), Vec::new(rt.alloc())) == FlyReply::Busy(1));
+    assert!(rt; client.in_flight(1).is_some_and(|op| op.number == 1 && op.base == 0));
+    assert!(rt; client.in_flight(2).is_none() && client.start(2) == Err(NoSuchOp));
+    let refused = Taken::Refused(Refusal::NoParent);
+    assert!(rt; client.take(rt.alloc(), 1, refused, &[]) == Err(TakeFault::NoSuchOp));
+    assert!(rt; client.start(1) == Ok(()) && client.start(1) == Err(NoSuchOp));
+    Ok(())
+}
+
+/// Two operations on the first identity, one on the second, and the commit of a third.
+fn four_ops(alloc: Global) -> Result<Vec<Op>, Fail>
+    ensures { IfOk result (λ ops. All MayFly ops.items) }
+{
+    let node = folder(alloc, b"b")?;
+    let ops = one_down(alloc, None, b"a")?;
+    let ops = with(ops, down(alloc, NodeId(2), None, &node)?)?;
+    let ops = with(ops, down(alloc, NodeId(1), None, &node)?)?;
+    Ok(with(ops, up(alloc, NodeId(3), &node)?)?)
+}
+
+#[test]
+fn operations_end_as_they_were_taken(rt: HostRuntime) -> Result<(), Fail> {
+    let mut client = fresh(rt.alloc());
+    let mut edits = Edits::new(rt.alloc());
+    begin(&rt, rt.alloc(), &mut client, four_ops(rt.alloc())?, &[1, 2, 3, 4]);
+    let answers = [
+        (1, Taken::Folder(Outcome::Made(Key(5)))),
+        (2, Taken::Folder(Outcome::Taken)),
+        (3, Taken::Folder(Outcome::Made(Key(6)))),
+        (4, Taken::Refused(Refusal::NoParent)),
+    ];
+    answer_all(&rt, rt.alloc(), &mut client, &answers);
+    let replies = [
+        (1, DoneReply::Applied),
+        (2, DoneReply::Dropped(Reason::Folder(Outcome::Taken))),
+        (3, DoneReply::Stale),
+        (4, DoneReply::Dropped(Reason::Server(Refusal::NoParent))),
+        (1, DoneReply::NoSuchOp),
+    ];
+    for (number, reply) in replies {
+        ends(&rt, &mut client, &mut edits, number, reply)?;
+    }
+    stands(&rt, &client, 0, 0, 1);
+    has(&rt, &client, Side::Local, b"a");
+    has(&rt, &client, Side::Synced, b"a");
+    Ok(())
+}
+
+/// A client whose folder has the folder `d`, under the fifth key, as the server has it.
+fn with_folder(rt: &impl Abort, alloc: Global, edits: &mut Edits) -> Result<Client<Tree>, Fail>
+    ensures { IfOk result (λ client. client.now.remote.ahead ≡ []) }
+{
+    let mut client = fresh(alloc);
+    pull(rt, alloc, &mut client, NodeId(1), folder(alloc, b"d")?)?;
+    begin(rt, alloc, &mut client, one_down(alloc, None, b"d")?, &[1]);
+    answer_all(rt, alloc, &mut client, &[(1, Taken::Folder(Outcome::Made(Key(5))))]);
+    ends(rt, &mut client, edits, 1, DoneReply::Applied)?;
+    client.restart();
+    Ok(client)
+}
+
+#[test]
+fn a_move_from_the_server_keeps_its_identity(rt: HostRuntime) -> Result<(), Fail> {
+    let mut edits = Edits::new(rt.alloc());
+    let mut client = with_folder(&rt, rt.alloc(), &mut edits)?;
+    let old = folder(rt.alloc(), b"d")?;
+    pull(&rt, rt.alloc(), &mut client, NodeId(1), folder(rt.alloc(), b"e")?)?;
+    begin(&rt, rt.alloc(), &mut client, one_down(rt.alloc(), Some(&old), b"e")?, &[2]);
+    answer_all(&rt, rt.alloc(), &mut client, &[(2, Taken::Folder(Outcome::Ok))]);
+    ends(&rt, &mut client, &mut edits, 2, DoneReply::Applied)?;
+    stands(&rt, &client, 2, 0, 2);
+    has(&rt, &client, Side::Remote, b"e");
+    has(&rt, &client, Side::Local, b"e");
+    has(&rt, &client, Side::Synced, b"e");
+    assert!(rt; client.keys().len() == 1 && client.keys().key_of(NodeId(1)) == Some(Key(5)));
     Ok(())
 }
