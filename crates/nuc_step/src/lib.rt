@@ -3,8 +3,6 @@
 
 mod answers;
 mod client;
-#[cfg(test)]
-mod client_tests;
 mod counts;
 mod event;
 mod landing;
