@@ -6,8 +6,6 @@ mod apply;
 mod following;
 mod local;
 mod remote;
-#[cfg(test)]
-mod remote_tests;
 
 pub use following::{more_entries_keep_remotes, next_entries_follow, remotes_stay_at_a_revision};
 pub use local::Local;
