@@ -1,3 +1,4 @@
+mod AnyOrder
 pub mod Ends
 pub mod Flying
 pub mod Kept
@@ -6,5 +7,9 @@ pub mod Landed
 pub mod Laying
 mod LocalAfter
 mod Outcomes
+mod Ready
+mod ReadyPlans
+mod StaysReady
 mod Steady
+mod Swaps
 mod Written

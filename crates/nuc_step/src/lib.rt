@@ -9,6 +9,7 @@ mod landing;
 mod launch;
 mod laws;
 mod log;
+mod order;
 mod reason;
 mod reply;
 #[cfg(test)]
@@ -23,6 +24,10 @@ pub use laws::{
     each_step_keeps_a_client, what_stays_keeps_its_key,
 };
 pub use log::{Log, LogEntry};
+pub use order::{
+    a_batch_is_ready, a_mend_is_ready, one_client_in_every_order, what_is_ready_is_applied,
+    what_is_ready_stays_ready,
+};
 pub use reason::Reason;
 pub use reply::{DoneReply, MarkReply, PlanReply, Reply, ScanReply, StartReply, TakeReply};
 pub use view::{ClientView, View};
