@@ -1,8 +1,9 @@
 -- What a client has observed stays sound: just the identities of its tree have a key.
-use Rattle.std.proofs.Common.{◌≡◌, ◌≢◌, ◌∙◌, ℕ, Option, None, Some, IsSomeAnd, refl, sym, ap, subst, inl, inr}
+use Rattle.std.proofs.Common.{◌≡◌, ◌≢◌, ◌∙◌, ℕ, Option, None, Some, IsSomeAnd, option_map, refl, sym, ap, subst, inl, inr}
 use Rattle.std.specs.FinMap.{get, insert, remove, empty, get-empty}
 use Rattle.std.specs.Ordering.{nat_cmp}
 use Rattle.nuc_base.proofs.Maps.{get_cut_other, get_cut_same, get_put_other, get_put_same, same_or_not}
+use Rattle.nuc_base.specs.Renamed.{IsRenamed, child_renamed}
 use Rattle.nuc_base.specs.Trees.{IsThere, Nodes, WellFormed}
 use Rattle.nuc_base.specs.declared.node.Node.{Node}
 use Rattle.nuc_lookup.proofs.Maps as numbers
@@ -39,6 +40,25 @@ keys_without : (m : Nodes) (ks : KeyMap) (x : ℕ) → HaveKeys m ks → HaveKey
 keys_without m ks x have y = elim (same_or_not y x) [
   | inl same ↦ subst (λ z. HasKey (get (remove m x) z) (get (remove ks x) z)) (sym same) (rw (get_cut_same m x, numbers.get_cut_same ks x) tt)
   | inr apart ↦ rw (get_cut_other m x y apart, numbers.get_cut_other ks x y apart) (have y)
+]
+
+any_other : (f : Node → Node) (o : Option Node) (key : Option ℕ) → HasKey o key → HasKey (option_map f o) key
+any_other f None None has = has
+any_other f None (Some k) has = has
+any_other f (Some n) None has = has
+any_other f (Some n) (Some k) has = has
+
+-- x comes in place of y, with its key
+keys_renamed : (m k : Nodes) (ks : KeyMap) (y x key : ℕ) (node : Node) → IsRenamed m y x node k → HaveKeys m ks → HaveKeys k (insert (remove ks y) x key)
+keys_renamed m k ks y x key node is have w = elim (same_or_not w x) [
+  | inl same ↦ subst (λ z. HasKey (get k z) (get (insert (remove ks y) x key) z)) (sym same) (rw (is.came, numbers.get_put_same (remove ks y) x key) tt)
+  | inr off ↦ elim (same_or_not w y) [
+    | inl same ↦ subst (λ z. HasKey (get k z) (get (insert (remove ks y) x key) z)) (sym same)
+        (subst (λ o. HasKey (get k y) o) (sym (numbers.get_put_other (remove ks y) x key y (λ e. off (same ∙ e)) ∙ numbers.get_cut_same ks y))
+        (subst (λ o. HasKey o None) (sym is.gone) tt))
+    | inr apart ↦ subst (λ o. HasKey (get k w) o) (sym (numbers.get_put_other (remove ks y) x key w off ∙ numbers.get_cut_other ks y w apart))
+        (subst (λ o. HasKey o (get ks w)) (sym (is.others w off apart)) (any_other (child_renamed y x) (get m w) (get ks w) (have w)))
+  ]
 ]
 
 pub no_keys : (m : Nodes) (ks : KeyMap) → m ≡ empty → ks ≡ empty → HaveKeys m ks
@@ -115,3 +135,6 @@ module _ (u : UndoState) (ks : UndoLookupState) (was : AreLocal (locals_of u ks)
         → js.now ≡ insert (remove ks.now x) z k → AreLocal (locals_of t js)
     sound_moved x z k node P lies apart is given = follows _ _ is (given ∙ sym (moved ks.now x z k apart))
         (keys_without (with_node u.now z node) (insert ks.now z k) x (keys_with u.now ks.now z k node P lies was.now.follow))
+
+    pub sound_renamed : (y x k : ℕ) (node : Node) → IsRenamed u.now y x node t.now → js.now ≡ insert (remove ks.now y) x k → AreLocal (locals_of t js)
+    sound_renamed y x k node is given = follows t.now _ refl given (keys_renamed u.now t.now ks.now y x k node is was.now.follow)

@@ -6,6 +6,7 @@ mod apply;
 mod following;
 mod local;
 mod remote;
+mod renaming;
 
 pub use following::{more_entries_keep_remotes, next_entries_follow, remotes_stay_at_a_revision};
 pub use local::Local;

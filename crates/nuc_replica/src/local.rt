@@ -2,12 +2,15 @@ ghost use Rattle.std.specs.Prelude.{◌≡◌, ◌≢◌, ◌≤◌, ◌<◌, �
 ghost use Rattle.std.specs.FinMap as map;
 ghost use Rattle.nuc_base.specs.Kinds.{FitsKind};
 ghost use Rattle.nuc_base.specs.Legal.{LegalPut, LegalCut};
+ghost use Rattle.nuc_base.specs.Renamed.{IsRenamed};
 ghost use Rattle.nuc_base.specs.Trees.{IsThere, WellFormed};
 ghost use Rattle.nuc_observe.specs.Keys.{AreKeys, HasAlone, IsUnheld};
-ghost use Rattle.nuc_replica.specs.Local.{AreLocal, ChangedKeys, ChangedLocal, HaveKeys, KeepsLocal, handed_over};
+ghost use Rattle.nuc_replica.specs.Local.{AreLocal, ChangedKeys, ChangedLocal, HaveKeys, KeepsLocal, handed_over, moved_key};
+ghost use Rattle.nuc_replica.specs.Renaming.{CanRename};
 ghost use Rattle.nuc_undo.specs.Laid.{with_node};
 
-use nuc_base::{Node, NodeId, TreeLike};
+use crate::renaming::{nodes_renamed, rename};
+use nuc_base::{Name, Node, NodeId, TreeLike};
 use nuc_folder::Key;
 use nuc_observe::{Keys, keys_are_one_to_one};
 use nuc_undo::UndoTree;
@@ -179,6 +182,40 @@ impl<T: TreeLike> Local<T> {
         };
         cut_key(&mut self.keys, id);
         put_key(&mut self.keys, to, key);
+    }
+
+    /// Another identity that isn't there comes in place of this one, with this node: it has its place, its children and its
+    /// key, and this one goes. On the way this one stands under a name that nobody has beside it. What it takes of the room
+    /// grows with the number of children.
+    pub fn rename(
+        &mut self,
+        alloc: Global,
+        id: NodeId,
+        to: NodeId,
+        node: Node,
+        aside: Name,
+    ) -> Result<(), AllocError>
+        requires { CanRename self.old.now.tree id.0 to.0 node aside }
+        ensures tree { OnOk result (IsRenamed self.old.now.tree id.0 to.0 node self.new.now.tree) }
+        ensures keys { OnOk result (self.new.now.keys ≡ moved_key self.old.now.keys id.0 to.0 (map.get self.old.now.keys id.0)) }
+        ensures laid { self.new.laid ≡ self.old.laid }
+        ensures laid_then { self.new.laid_then ≡ self.old.laid_then }
+        ensures settled { self.new.settled ≡ self.old.settled }
+        ensures spare_then { self.old.spare_then ≤ self.new.spare_then }
+        ensures err { OnErr result (KeepsLocal self.old self.new) }
+    {
+        let nodes = nodes_renamed(alloc, self.tree.tree(), id, to, aside)?;
+        let changes = (nodes.children.len() as u64)
+            .checked_add(3)
+            .ok_or(AllocError)?;
+        self.reserve(changes)?;
+        let Some(key) = self.keys.key_of(id) else {
+            unreachable!()
+        };
+        rename(&mut self.tree, id, to, node, nodes);
+        cut_key(&mut self.keys, id);
+        put_key(&mut self.keys, to, key);
+        Ok(())
     }
 
     /// What there is now is what `back` leads to, and what was put from those laid by doesn't go back to them. It takes no
