@@ -8,7 +8,7 @@ use crate::done::done_text;
 use crate::web::{web_reply_text, web_text};
 use crate::words::{escaped, filling_word, path_word};
 use nuc_class::{Op, Verb};
-use nuc_folder::{Item, UserEdit, UserReply};
+use nuc_folder::{Item, FlatEdit, FlatReply};
 use nuc_hash::{Content, hash_text};
 use nuc_step::{Event, LogEntry, MarkReply, PlanReply, Reply, ScanReply, StartReply, TakeReply};
 use std::alloc::{AllocError, Global};
@@ -81,11 +81,11 @@ fn verb_word(verb: Verb) -> &'static str
     }
 }
 
-fn edit_text(alloc: Global, edit: &UserEdit) -> Result<String, AllocError>
+fn edit_text(alloc: Global, edit: &FlatEdit) -> Result<String, AllocError>
     ensures { IfOk result (λ text. string_bytes text ≡ joined (edit_words edit.now)) }
 {
     match edit {
-        UserEdit::Write(path, filling) => {
+        FlatEdit::Write(path, filling) => {
             let path = path_word(alloc, path)?;
             let filling = filling_word(alloc, filling)?;
             format!(in alloc; "write {path} {filling}")
@@ -140,13 +140,13 @@ fn reply_text(alloc: Global, reply: &Reply) -> Result<String, AllocError>
     }
 }
 
-fn user_word(answer: &UserReply) -> &'static str
+fn user_word(answer: &FlatReply) -> &'static str
     ensures { result.now ≡ user_word answer.now }
 {
     match answer {
-        UserReply::Ok => "ok",
-        UserReply::NoParent => "noparent",
-        UserReply::Memory => "memory",
+        FlatReply::Ok => "ok",
+        FlatReply::NoParent => "noparent",
+        FlatReply::Memory => "memory",
     }
 }
 
