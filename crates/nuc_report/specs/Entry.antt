@@ -28,13 +28,17 @@ use Rattle.nuc_report.specs.Web.{web_words, web_reply_words}
 use Rattle.nuc_report.specs.Done.{done_words}
 
 -- kind, size and hash; a folder has no bytes
-abbrev pub content_words : Option ContentData → List (List ℕ)
-content_words None = codes "folder" ∷ codes "0" ∷ codes "-" ∷ []
-content_words (Some content) = codes "file" ∷ decimal content.size ∷ encode_lower content.hash.0 ∷ []
+abbrev pub file_word : Bool → List ℕ
+file_word true = codes "program"
+file_word false = codes "file"
+
+abbrev pub content_words : Bool → Option ContentData → List (List ℕ)
+content_words bit None = codes "folder" ∷ codes "0" ∷ codes "-" ∷ []
+content_words bit (Some content) = file_word bit ∷ decimal content.size ∷ encode_lower content.hash.0 ∷ []
 
 abbrev pub item_line : Item → List ℕ
 item_line item =
-    line (codes "item" ∷ decimal item.key.0 ∷ decimal item.parent.0 ∷ content_words item.content ++ escaped item.name ∷ [])
+    line (codes "item" ∷ decimal item.key.0 ∷ decimal item.parent.0 ∷ content_words item.bit item.content ++ escaped item.name ∷ [])
 
 abbrev pub verb_word : Verb → List ℕ
 verb_word verb.Down = codes "down"
