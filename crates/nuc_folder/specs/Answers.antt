@@ -11,7 +11,8 @@ use Rattle.nuc_base.specs.declared.node.Place.{Place}
 use Rattle.nuc_hash.specs.Content.{content_of}
 use Rattle.nuc_hash.specs.declared.digest.Digest.{Digest}
 use Rattle.nuc_folder.specs.Listing.{IsListing}
-use Rattle.nuc_folder.specs.State.{FolderState, file_at, moved, place_of, refilled, removed, switched, with_file, with_folder}
+use Rattle.nuc_shelf.specs.Shelf.{marked, moved, refilled, with_file, with_folder, without}
+use Rattle.nuc_folder.specs.State.{FolderState, place_of}
 use Rattle.nuc_folder.specs.declared.listed.Listed.{Listed}
 use Rattle.nuc_folder.specs.declared.listed.Listed.TheVariants as listed
 use Rattle.nuc_folder.specs.declared.listed.TheConstants.{MOST_ITEMS}
@@ -56,10 +57,30 @@ MakeAnswers p made old outcome.Ok new = ⊥
 MakeAnswers p made old outcome.NotEmpty new = ⊥
 
 abbrev pub MakeDirAnswers : Place → FolderState → Outcome → FolderState → Type 0
-MakeDirAnswers p old answer new = MakeAnswers p (λ x s. with_folder x p s) old answer new
+MakeDirAnswers p old answer new = MakeAnswers p (λ x s. with_folder s x p) old answer new
 
 abbrev pub WriteNewAnswers : Place → List ℕ → Bool → FolderState → Outcome → FolderState → Type 0
-WriteNewAnswers p bytes bit old answer new = MakeAnswers p (λ x s. with_file x p bytes bit s) old answer new
+WriteNewAnswers p bytes bit old answer new = MakeAnswers p (λ x s. with_file s x p bit bytes) old answer new
+
+-- a new thing got this key, or none was made; the folder itself didn't fail
+abbrev pub MadeAs : Outcome → ℕ → Type 0
+MadeAs (outcome.Made key) x = key.0 ≡ x
+MadeAs outcome.Ok x = ⊥
+MadeAs outcome.NotEmpty x = ⊥
+MadeAs outcome.Changed x = Unit {0}
+MadeAs outcome.Taken x = Unit {0}
+MadeAs outcome.Failed x = ⊥
+MadeAs outcome.Memory x = Unit {0}
+
+-- the first reason why x can't stand at the place p, where that is not below x
+abbrev pub Refuses : Nodes → ℕ → Place → Outcome → Type 0
+Refuses m x p outcome.Changed = ¬ (IsFolder m p.parent.0)
+Refuses m x p outcome.Taken = IsFolder m p.parent.0 × Held m p x
+Refuses m x p (outcome.Made key) = ⊥
+Refuses m x p outcome.Ok = ⊥
+Refuses m x p outcome.NotEmpty = ⊥
+Refuses m x p outcome.Failed = ⊥
+Refuses m x p outcome.Memory = ⊥
 
 -- CALLS THAT CHANGE
 -- Ok is the one success
@@ -71,6 +92,16 @@ Changes outcome.Changed n after = n ≤ after
 Changes outcome.Taken n after = n ≤ after
 Changes outcome.Failed n after = n ≤ after
 Changes outcome.Memory n after = n ≤ after
+
+-- nothing was made, and the folder itself didn't fail
+abbrev pub Alters : Outcome → Type 0
+Alters (outcome.Made key) = ⊥
+Alters outcome.Ok = Unit {0}
+Alters outcome.NotEmpty = Unit {0}
+Alters outcome.Changed = Unit {0}
+Alters outcome.Taken = Unit {0}
+Alters outcome.Failed = ⊥
+Alters outcome.Memory = Unit {0}
 
 -- a file is altered where it is as expected: the folder holds `after` then
 abbrev pub AlterAnswers : Type 0 → FolderState → FolderState → Outcome → FolderState → Type 0
@@ -88,7 +119,7 @@ HasHash None hash = ⊥
 HasHash (Some bytes) hash = (content_of bytes).hash ≡ hash
 
 abbrev pub ReplaceAnswers : ℕ → Digest → List ℕ → FolderState → Outcome → FolderState → Type 0
-ReplaceAnswers x expected bytes old answer new = AlterAnswers (HasHash (get old.bytes x) expected) (refilled x bytes old) old answer new
+ReplaceAnswers x expected bytes old answer new = AlterAnswers (HasHash (get old.bytes x) expected) (refilled old x bytes) old answer new
 
 -- a file is there with this bit
 abbrev pub HasBit : Option Node → Bool → Type 0
@@ -96,7 +127,7 @@ HasBit None bit = ⊥
 HasBit (Some n) bit = (n.kind ≡ File) × (n.bit ≡ bit)
 
 abbrev pub SetBitAnswers : ℕ → Bool → Bool → FolderState → Outcome → FolderState → Type 0
-SetBitAnswers x expected bit old answer new = AlterAnswers (HasBit (get old.tree x) expected) (switched x bit old) old answer new
+SetBitAnswers x expected bit old answer new = AlterAnswers (HasBit (get old.tree x) expected) (marked old x bit) old answer new
 
 -- a node is there, at this place by its bytes
 abbrev pub IsPlaced : Option Node → Place → Type 0
@@ -108,7 +139,7 @@ abbrev pub CanMove : ℕ → Place → Place → FolderState → Type 0
 CanMove x expected p s = IsPlaced (get s.tree x) expected × IsFolder s.tree p.parent.0 × ¬ (IsUnder s.tree p.parent.0 x)
 
 abbrev pub MoveAnswers : ℕ → Place → Place → FolderState → Outcome → FolderState → Type 0
-MoveAnswers x expected p old outcome.Ok new = CanMove x expected p old × IsFree old.tree x p × (new ≡ moved x p old)
+MoveAnswers x expected p old outcome.Ok new = CanMove x expected p old × IsFree old.tree x p × (new ≡ moved old x p)
 MoveAnswers x expected p old outcome.Changed new = ¬ (CanMove x expected p old) × (new ≡ old)
 MoveAnswers x expected p old outcome.Taken new = CanMove x expected p old × Held old.tree p x × (new ≡ old)
 MoveAnswers x expected p old outcome.Failed new = new ≡ old
@@ -128,7 +159,7 @@ abbrev pub IsSeen : ℕ → Seen → FolderState → Type 0
 IsSeen x seen s = IsPlaced (get s.tree x) (place_of seen.place) × HasSeenHash (get s.bytes x) seen.hash
 
 abbrev pub RemoveAnswers : ℕ → Seen → FolderState → Outcome → FolderState → Type 0
-RemoveAnswers x seen old outcome.Ok new = IsSeen x seen old × NoChild old.tree x × (new ≡ removed x old)
+RemoveAnswers x seen old outcome.Ok new = IsSeen x seen old × NoChild old.tree x × (new ≡ without old x)
 RemoveAnswers x seen old outcome.Changed new = ¬ (IsSeen x seen old) × (new ≡ old)
 RemoveAnswers x seen old outcome.NotEmpty new = IsSeen x seen old × HasChild old.tree x × (new ≡ old)
 RemoveAnswers x seen old outcome.Failed new = new ≡ old

@@ -255,7 +255,8 @@ impl World {
         let bytes = match self.folder.read(alloc, key) {
             ReadBack::Bytes(bytes) => bytes,
             ReadBack::Memory => return Err(AllocError),
-            ReadBack::Changed | ReadBack::Failed => unreachable!(),
+            ReadBack::Changed => unreachable!(),
+            ReadBack::Failed => unreachable!(),
         };
         let event = Event::Start {
             client: CLIENT,
