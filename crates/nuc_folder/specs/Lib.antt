@@ -1,5 +1,11 @@
-pub mod Folder
-pub mod Formed
+pub mod Answers
+pub mod Codes
+pub mod FlatFolder
+pub mod FlatFormed
+pub mod FlatListing
+pub mod FlatWrite
 pub mod Listing
+pub mod Memory
 pub mod Outcome
-pub mod Write
+pub mod Pending
+pub mod State

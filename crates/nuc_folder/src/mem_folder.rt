@@ -1,151 +1,108 @@
-ghost use Rattle.std.specs.Prelude.{◌≡◌, ◌<◌, ◌≤◌, [], All, length, map, position, IfOk, OnOk, OnErr, IfSome, None};
-ghost use Rattle.std.specs.List.{find};
-ghost use Rattle.std.specs.Option.{option_copied};
+ghost use Rattle.std.specs.Prelude.{◌≡◌, ◌<◌, ◌+◌, [], ◌∷◌, ◌++◌, drop, IfOk, OnOk, OnErr};
+ghost use Rattle.nuc_io.specs.Calls.{after_call, is_to_fail};
+ghost use Rattle.nuc_folder.specs.Memory.{IsKeyed, empty_state};
+ghost use Rattle.nuc_folder.specs.Pending.{oldest};
 
-use crate::mem_file::MemFile;
-use crate::{Item, Key, ReadBack, UserEdit, UserReply};
-use nuc_base::Name;
-use sqlite_items::Items;
+use crate::Noticed;
+use crate::notices::Notices;
+use nuc_io::Calls;
+use nuc_shelf::Shelf;
 use std::alloc::{AllocError, Global};
 use std::marker::Model;
 
-/// A folder in memory, edited by a script. Its files stand in the order of their names' bytes.
-#[derive(Debug, Drop)]
+/// A folder in memory, which tells what it holds. Its keys count from 1.
+///
+/// Its calls can be made to fail, and all else that was changed since the last `settle` can be taken back.
+#[derive(Drop)]
 pub struct MemFolder {
-    files: Vec<MemFile>,
-    next_key: u64,
+    pub(crate) shelf: Shelf,
+    pub(crate) next_key: u64,
+    settled_key: u64,
+    pub(crate) notices: Notices,
+    calls: Calls,
 }
 
 impl Model for MemFolder {
-    ghost use Rattle.nuc_folder.specs.Folder.{FolderData};
-    ghost use Rattle.nuc_folder.specs.Formed.{IsFormed};
+    ghost use Rattle.nuc_folder.specs.Codes.{states_code};
+    ghost use Rattle.nuc_folder.specs.Memory.{IsKeyed, MemStates};
 
-    ghost Value = { FolderData };
+    ghost Value = { MemStates };
 
-    ghost view = { λ f. record { files = f.files.items; next_key = f.next_key } };
+    ghost coded = { states_code };
 
-    ghost invariant = { λ f. IsFormed (record { files = f.files.items; next_key = f.next_key }) };
+    ghost view = { λ f. record {
+      now = record { held = f.shelf.now; next = f.next_key; pending = f.notices.now };
+      settled = record { held = f.shelf.settled; next = f.settled_key; pending = f.notices.settled };
+      calls = f.calls;
+    } };
+
+    ghost invariant = { λ f. IsKeyed (record { held = f.shelf.now; next = f.next_key; pending = f.notices.now })
+      × IsKeyed (record { held = f.shelf.settled; next = f.settled_key; pending = f.notices.settled }) };
 }
-
-ghost use Rattle.nuc_base.specs.Names.{IsName};
-ghost use Rattle.nuc_folder.specs.Formed.{IsFormed};
-ghost use Rattle.nuc_folder.specs.Listing.{has_key, item_of, Reads};
-ghost use Rattle.nuc_folder.specs.Write.{Answers, comes_after, has_name, place_of, refilled, written, written_at};
 
 impl MemFolder {
-    /// An empty folder, in no memory.
+    /// An empty folder, settled, none of whose calls fails. It takes no memory.
     pub fn new(alloc: Global) -> MemFolder
-        ensures { result ≡ record { files = []; next_key = 1 } }
+        ensures { result ≡ record { now = empty_state; settled = empty_state; calls = record { made = 0; failing = []; faults = 0 } } }
     {
         MemFolder {
-            files: Vec::new(alloc),
+            shelf: Shelf::new(alloc),
             next_key: 1,
+            settled_key: 1,
+            notices: Notices::new(alloc),
+            calls: Calls::new(alloc),
         }
     }
 
-    /// Makes a user's edit. Memory lacks too where no key would be left after the file's.
-    pub fn user(&mut self, alloc: Global, edit: &UserEdit) -> UserReply
-        ensures { Answers edit.now self.old result self.new }
-    {
-        match edit {
-            UserEdit::Write(path, filling) => match path.names.as_slice() {
-                [name] => match self.write(alloc, name, filling.bytes()) {
-                    Ok(()) => UserReply::Ok,
-                    Err(_) => UserReply::Memory,
-                },
-                _ => UserReply::NoParent,
-            },
-        }
-    }
-
-    fn write(&mut self, alloc: Global, name: &Name, bytes: &[u8]) -> Result<(), AllocError>
-        ensures ok { OnOk result (self.new ≡ written name.now bytes.now self.old) }
+    /// Lets the k-th call of the trait `Folder` from now on fail, k from 1. A number of a call that would pass the end of
+    /// `u64` is want of memory.
+    pub fn fail_at(&mut self, k: u64) -> Result<(), AllocError>
+        requires { 0 < k }
+        ensures ok { OnOk result (self.new ≡ record self.old {
+          calls = record self.old.calls { failing = self.old.calls.failing ++ (self.old.calls.made + k) ∷ [] };
+        }) }
         ensures err { OnErr result (self.new ≡ self.old) }
     {
-        match position_of(&self.files, name) {
-            Some(index) => refill_at(&mut self.files, index, alloc, bytes),
-            None => self.make(alloc, name, bytes),
-        }
+        self.calls.fail_at(k)
     }
 
-    fn make(&mut self, alloc: Global, name: &Name, bytes: &[u8]) -> Result<(), AllocError>
-        requires { position (has_name name.now) self.old.files ≡ None }
-        ensures ok { OnOk result (self.new ≡ written_at None name.now bytes.now self.old) }
+    /// Takes the oldest change by the user that nobody was told since the last listing; none where nothing is left.
+    pub fn pending(&mut self, alloc: Global) -> Result<Option<Noticed>, AllocError>
+        ensures oldest { IfOk result (λ taken. taken ≡ oldest self.old.now.pending) }
+        ensures ok { OnOk result (self.new ≡ record self.old { now = record self.old.now { pending = drop 1 self.old.now.pending } }) }
         ensures err { OnErr result (self.new ≡ self.old) }
     {
-        let next_key = self.next_key.checked_add(1).ok_or(AllocError)?;
-        let file = MemFile::new(alloc, Key(self.next_key), name, bytes)?;
-        let index = place_of(&self.files, name);
-        self.files.insert(index, file)?;
-        self.next_key = next_key;
-        Ok(())
+        self.notices.take_oldest(alloc)
     }
 
-    /// The listing: a line for each file, in order.
-    pub fn items(&self, alloc: Global) -> Result<Items<Item>, AllocError>
-        ensures lines { IfOk result (λ items. items ≡ map item_of self.now.files) }
-        ensures names { IfOk result (λ items. All (λ item. IsName item.name) items) }
-        ensures formed { IsFormed self.now }
+    /// What the folder is now is what `back` leads to. It takes no memory.
+    pub fn settle(&mut self)
+        ensures { self.new ≡ record { now = self.old.now; settled = self.old.now; calls = self.old.calls } }
     {
-        let mut items = Items::new(alloc);
-        for file in &self.files {
-            items.push(file.item(alloc)?)?;
-        }
-        Ok(items)
+        self.shelf.settle();
+        self.notices.settle();
+        self.settled_key = self.next_key;
     }
 
-    /// The bytes of the file of this key.
-    pub fn read(&self, alloc: Global, key: Key) -> ReadBack
-        ensures { Reads self.now.files key.0 result }
+    /// The folder is again what it was when `settle` was last called, or when it was made. Its calls stay: how many there
+    /// were, which are to fail, and how many have failed. It takes no memory.
+    pub fn back(&mut self)
+        ensures { self.new ≡ record { now = self.old.settled; settled = self.old.settled; calls = self.old.calls } }
     {
-        match file_of(&self.files, key) {
-            Some(file) => match Items::from_slice(alloc, file.bytes()) {
-                Ok(bytes) => ReadBack::Bytes(bytes),
-                Err(_) => ReadBack::Memory,
-            },
-            None => ReadBack::Changed,
-        }
+        self.shelf.back();
+        self.notices.back();
+        self.next_key = self.settled_key;
     }
-}
 
-/// Where the file of this name stands.
-fn position_of(files: &[MemFile], name: &Name) -> Option<usize>
-    ensures { result ≡ position (has_name name.now) files.now }
-{
-    files.iter().position(|file| file.has_name(name))
-}
-
-/// Where a new file of this name goes.
-fn place_of(files: &[MemFile], name: &Name) -> usize
-    ensures value { result ≡ place_of name.now files.now }
-    ensures within { result ≤ length files.now }
-{
-    first_after(files, name).unwrap_or(files.len())
-}
-
-fn first_after(files: &[MemFile], name: &Name) -> Option<usize>
-    ensures value { result ≡ position (comes_after name.now) files.now }
-    ensures within { IfSome result (λ index. index < length files.now) }
-{
-    files.iter().position(|file| file.comes_after(name))
-}
-
-fn file_of(files: &[MemFile], key: Key) -> Option<&MemFile>
-    ensures { option_copied result ≡ find (has_key key.0) files.now }
-{
-    files.iter().find(|file| file.has_key(key))
-}
-
-fn refill_at(
-    files: &mut [MemFile],
-    index: usize,
-    alloc: Global,
-    bytes: &[u8],
-) -> Result<(), AllocError>
-    requires { index < length files.old }
-    ensures ok { OnOk result (files.new ≡ refilled index bytes.now files.old) }
-    ensures err { OnErr result (files.new ≡ files.old) }
-{
-    files[index].refill(alloc, bytes)?;
-    Ok(())
+    /// Counts a call, and says whether it fails.
+    pub(crate) fn fails(&mut self) -> bool
+        ensures value { result ≡ is_to_fail self.old.calls }
+        ensures after { self.new ≡ record self.old { calls = after_call self.old.calls (is_to_fail self.old.calls) } }
+    {
+        let fails = self.calls.begin();
+        if fails {
+            self.calls.count_fault();
+        }
+        fails
+    }
 }
