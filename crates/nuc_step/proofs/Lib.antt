@@ -1,4 +1,5 @@
 mod AnyOrder
+mod Bringing
 pub mod Ends
 pub mod Flying
 pub mod Kept

@@ -1,5 +1,6 @@
 pub mod Calls
 pub mod Client
+pub mod Holdings
 pub mod Launch
 pub mod Laws
 pub mod Order

@@ -1,3 +1,4 @@
+ghost use Rattle.nuc_step.specs.Holdings.{StepsBringNothingElse};
 ghost use Rattle.nuc_step.specs.Laws.{DoneWritesOnce, MoveKeepsKey, OneEnd, StayingKeepsKey, StepsKeepClients};
 
 /// Two Dones of one operation, of one client and with the same recorded, have the same reply, and the same client and
@@ -26,4 +27,10 @@ pub fn a_move_keeps_its_identity()
 /// in flight may be there.
 pub fn each_step_keeps_a_client()
     ensures { StepsKeepClients }
+{}
+
+/// A step brings a client only what comes with it. So kinds, versions and identities that a client has never had come
+/// with the operations that fly, the page that is pulled or the news of a commit, or not at all.
+pub fn a_step_brings_nothing_else()
+    ensures { StepsBringNothingElse }
 {}
