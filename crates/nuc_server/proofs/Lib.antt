@@ -1,7 +1,6 @@
 mod Following
 mod Fresh
 pub mod Judging
-mod Keeping
 pub mod NothingLost
 pub mod OneAnswer
 mod Putting
