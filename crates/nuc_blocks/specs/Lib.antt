@@ -1,4 +1,5 @@
 pub mod Blocks
 pub mod Faults
 pub mod Laws
+pub mod Pieces
 pub mod Store

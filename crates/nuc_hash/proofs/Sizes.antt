@@ -1,4 +1,4 @@
-use Rattle.std.proofs.Common.{◌≡◌, ℕ, suc, zero, List, length, refl, ap, ◌∙◌, arith}
+use Rattle.std.proofs.Common.{◌≡◌, ℕ, suc, zero, List, length, map, refl, ap, ◌∙◌, arith}
 use Rattle.std.specs.Int.{div_ceil}
 use Rattle.std.specs.Simd.{first_chunks}
 use Rattle.std.proofs.lemmas.List.{length-map}
@@ -19,3 +19,8 @@ pub count-content_of : (bytes : List ℕ) → length (content_of bytes).blocks �
 unfolding content_of blocks_of pieces
 count-content_of bytes =
     length-map (blocks_of bytes) digest_of ∙ length-first_chunks BLOCK _ bytes ∙ omega arith
+
+-- the digests of a content are those of the blocks of its bytes
+pub blocks-content_of : (bytes : List ℕ) → (content_of bytes).blocks ≡ map digest_of (blocks_of bytes)
+unfolding content_of
+blocks-content_of bytes = refl

@@ -1,6 +1,5 @@
 mod Fresh
 pub mod Judging
-mod Keeping
 pub mod NothingLost
 pub mod OneAnswer
 mod Putting

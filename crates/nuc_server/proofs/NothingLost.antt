@@ -26,7 +26,7 @@ use Rattle.nuc_server.specs.declared.web_edit.WebEdit.TheVariants as edit
 use Rattle.nuc_server.specs.declared.web_edit.WebReply.{WebReply}
 use Rattle.nuc_server.specs.declared.web_edit.WebReply.TheVariants as reply
 use Rattle.nuc_server.proofs.Fresh.{nobody}
-use Rattle.nuc_server.proofs.Stored.{stands_on}
+use Rattle.nuc_blocks.proofs.Stored.{stands_on}
 
 same_blocks : (before after : Blocks) → after ≡ before → KeepsBlocks before after
 same_blocks before after same = rw same (λ digest bytes at. at)

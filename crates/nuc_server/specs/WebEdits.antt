@@ -10,7 +10,8 @@ use Rattle.nuc_base.specs.declared.node.Node.{Node}
 use Rattle.nuc_base.specs.declared.node.Place.{Place}
 use Rattle.nuc_base.specs.declared.tree_fault.CutFault.TheVariants as cut
 use Rattle.nuc_base.specs.declared.tree_fault.PutFault.TheVariants as put
-use Rattle.nuc_blocks.specs.Blocks.{Blocks, block_of, stored}
+use Rattle.nuc_blocks.specs.Blocks.{Blocks}
+pub use Rattle.nuc_blocks.specs.Pieces.{KeepsBlocks, all_stored}
 use Rattle.nuc_edits.specs.Edits.{Recorded, both_same, content_at}
 use Rattle.nuc_edits.specs.declared.edit.EditKind.{EditKind}
 use Rattle.nuc_edits.specs.declared.edit.EditKind.TheVariants.{Put, Deleted}
@@ -110,21 +111,12 @@ pub record IsUnchanged (s t : WebState) : Type 0 where
   pub edits : t.edits ≡ s.edits
   pub ids : t.ids ≡ s.ids
 
--- each block that stood stands
-abbrev pub KeepsBlocks : Blocks → Blocks → Type 0
-KeepsBlocks before after = (digest : Digest) (bytes : List ℕ) → block_of before digest ≡ Some bytes → block_of after digest ≡ Some bytes
-
 -- all is as before, but that blocks may have come
 pub record OnlyGained (s t : WebState) : Type 0 where
   pub entries : t.entries ≡ s.entries
   pub blocks : KeepsBlocks s.blocks t.blocks
   pub edits : t.edits ≡ s.edits
   pub ids : t.ids ≡ s.ids
-
--- the blocks once these are stored, one after the other
-abbrev pub all_stored : List (List ℕ) → Blocks → Blocks
-all_stored [] blocks = blocks
-all_stored (bytes ∷ rest) blocks = all_stored rest (stored (digest_of bytes) bytes blocks)
 
 -- x gets the node, which has the next version, whose edit puts these bytes over the version base; their blocks are kept
 pub record Writes (s : WebState) (x : ℕ) (node : Node) (base : ℕ) (bytes : List ℕ) (rev : ℕ) (t : WebState) : Type 0 where

@@ -4,7 +4,6 @@
 mod bit;
 mod commit;
 mod judge;
-mod keep;
 mod laws;
 mod mkdir;
 mod relocate;
@@ -20,7 +19,7 @@ mod web_tests;
 mod write;
 
 pub use commit::{Commit, CommitReply, Refusal};
-pub use keep::keep_blocks;
 pub use laws::{has_one_web_answer, loses_no_version};
+pub use nuc_blocks::keep_blocks;
 pub use server::{LoopServer, ServerTree};
 pub use web_edit::{WebEdit, WebReply};

@@ -10,10 +10,9 @@ ghost use Rattle.nuc_journal.specs.Journal.{HadKind, IsJournal};
 ghost use Rattle.nuc_paths.specs.Paths.{place_in};
 ghost use Rattle.nuc_server.specs.WebEdits.{IsNextId, OnlyGained, WriteAnswers, Writes, WritesNew, WritesOver, WebState, file_at};
 
-use crate::keep::keep_blocks;
 use crate::{LoopServer, WebReply};
 use nuc_base::{Counters, Kind, Name, Node, NodeId, Place, Ver};
-use nuc_blocks::Store;
+use nuc_blocks::{Store, keep_blocks};
 use nuc_edits::{EditKind, Edits};
 use nuc_hash::{Content, content_of};
 use nuc_paths::holder;

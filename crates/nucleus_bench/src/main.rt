@@ -19,6 +19,7 @@ use fault::Fault;
 use std::alloc::Global;
 use std::process::ExitCode;
 use std::rt::Env;
+use std::thread::Threads;
 use work::{Work, count_of};
 
 fn main(rt: HostRuntime) -> ExitCode {
@@ -36,18 +37,21 @@ fn main(rt: HostRuntime) -> ExitCode {
 }
 
 /// What the words behind the program's name ask for.
-fn answer(rt: &(impl Env + AllocGlobal), alloc: Global) -> Result<String, Fault> {
+fn answer(rt: &(impl Env + AllocGlobal + Threads + Sync), alloc: Global) -> Result<String, Fault> {
     let mut words = Vec::new(alloc);
     for word in std::env::args(rt)?.skip(1) {
         words.push(word)?;
     }
-    run(alloc, &words)
+    run(rt, alloc, &words)
 }
 
-fn run(alloc: Global, words: &[String]) -> Result<String, Fault> {
+fn run(rt: &(impl Threads + Sync), alloc: Global, words: &[String]) -> Result<String, Fault> {
     match words {
-        [] => small(alloc),
+        [] => small(rt, alloc),
         [work, count] => count_by(alloc, work.as_str(), count.as_str()),
+        [command, files, size] if command.as_str() == "many" => {
+            hashing::many(rt, alloc, number(files)?, number(size)?)
+        }
         [command, size, piece] => hash_by(alloc, command.as_str(), number(size)?, number(piece)?),
         _ => Err(Fault::Usage),
     }
@@ -76,10 +80,11 @@ fn number(word: &String) -> Result<u64, Fault> {
 }
 
 /// A little of each kind of work, to see that all of it runs.
-fn small(alloc: Global) -> Result<String, Fault> {
+fn small(rt: &(impl Threads + Sync), alloc: Global) -> Result<String, Fault> {
     let hash = hashing::hash(alloc, 1_000, 300)?;
     let sha2 = hashing::sha2(alloc, 1_000, 300)?;
-    let mut text = format!(in alloc; "hash {hash}\nsha2 {sha2}")?;
+    let many = hashing::many(rt, alloc, 3, 1_000)?;
+    let mut text = format!(in alloc; "hash {hash}\nsha2 {sha2}\nmany {many}")?;
     for work in Work::ALL {
         let line = work.run(alloc, 70)?;
         text.push_str("\n")?;

@@ -1,13 +1,13 @@
--- How blocks come off the front of the bytes that are written, and are stored.
-use Rattle.std.proofs.Common.{◌≡◌, ◌+◌, ◌-◌, ◌<◌, ◌≤◌, ℕ, min, List, [], ◌∷◌, ◌++◌, length, take, drop, get_or, map, Some, refl, sym, ap, subst, ◌∙◌, arith, length-take-le, length-drop}
+-- How blocks come off the front of the bytes of a file, and are stored.
+use Rattle.std.proofs.Common.{◌≡◌, ◌+◌, ◌-◌, ◌<◌, ◌≤◌, ℕ, min, List, [], ◌∷◌, ◌++◌, length, take, drop, get_or, map, refl, sym, ap, subst, ◌∙◌, arith, append_assoc, append-nil, length-take-le, length-drop}
 use Rattle.std.proofs.lemmas.List.{drop_more, nil_from_length, take-append-drop}
-use Rattle.nuc_blocks.specs.Blocks.{Blocks, block_of, stored}
-use Rattle.nuc_blocks.proofs.Lookups.{kept_stands}
+use Rattle.nuc_blocks.specs.Blocks.{Blocks, stored}
+use Rattle.nuc_blocks.specs.Pieces.{all_stored}
+use Rattle.nuc_blocks.proofs.Stored.{all_stored-append}
 use Rattle.nuc_hash.specs.Content.{blocks_of, digest_of}
 use Rattle.nuc_hash.specs.declared.content.TheConstants.{BLOCK}
 use Rattle.nuc_hash.specs.declared.digest.Digest.{Digest}
 use Rattle.nuc_hash.proofs.Pieces.{blocks_of-none, blocks_of-append}
-use Rattle.nuc_server.specs.WebEdits.{KeepsBlocks, all_stored}
 
 -- where a digest is left, bytes are
 some_left : (bytes : List ℕ) (d : Digest) (ds : List Digest) → d ∷ ds ≡ map digest_of (blocks_of bytes) → 0 < length bytes
@@ -43,23 +43,25 @@ module _ (digests : List Digest) (i : ℕ) (rest : List ℕ) (d : Digest) (n : �
   pub first_fits : length (take n rest) ≤ BLOCK
   first_fits = let few = size in omega (arith, few, is)
 
-  -- the blocks after the first one was stored
-  pub first_stored : (before after : Blocks) → after ≡ stored (get_or digests i d) (take n rest) before
-      → all_stored (blocks_of (drop n rest)) after ≡ all_stored (blocks_of rest) before
-  first_stored before after same =
-      ap (all_stored (blocks_of (drop n rest))) (same ∙ ap (λ (e : Digest). stored e (take n rest) before) (sym first_digest))
-      ∙ sym (ap (λ ps. all_stored ps before) first_block)
+  -- the front grows by the first block that is left
+  pub more_split : (pieces front : List (List ℕ)) → pieces ≡ front ++ blocks_of rest → pieces ≡ (front ++ take n rest ∷ []) ++ blocks_of (drop n rest)
+  more_split pieces front all =
+      all ∙ ap (λ (ps : List (List ℕ)). front ++ ps) first_block ∙ sym (append_assoc front (take n rest ∷ []) (blocks_of (drop n rest)))
 
-pub keeps_more : (first before after : Blocks) (digest : Digest) (bytes : List ℕ) → KeepsBlocks first before → after ≡ stored digest bytes before → KeepsBlocks first after
-keeps_more first before after digest bytes kept same other block at =
-    subst (λ (blocks : Blocks). block_of blocks other ≡ Some block) (sym same) (kept_stands before digest bytes other block (kept other block at))
+  pub more_stored : (front : List (List ℕ)) (first before after : Blocks) → before ≡ all_stored front first → after ≡ stored (get_or digests i d) (take n rest) before
+      → after ≡ all_stored (front ++ take n rest ∷ []) first
+  more_stored front first before after are same =
+      same ∙ ap (λ (e : Digest). stored e (take n rest) before) (sym first_digest)
+      ∙ ap (stored (digest_of (take n rest)) (take n rest)) are
+      ∙ sym (all_stored-append front (take n rest ∷ []) first)
 
 no_digest : (ps : List (List ℕ)) → map digest_of ps ≡ [] → ps ≡ []
 no_digest [] none = refl
 no_digest (p ∷ ps) none = cc
 
--- where no digest is left, all are stored
-pub none_left : (digests : List Digest) (i : ℕ) (rest : List ℕ) (blocks : Blocks) → length digests ≤ i → drop i digests ≡ map digest_of (blocks_of rest) → all_stored (blocks_of rest) blocks ≡ blocks
-none_left digests i rest blocks end left =
+-- where no digest is left, all pieces are in front
+pub none_left : (digests : List Digest) (i : ℕ) (rest : List ℕ) (pieces front : List (List ℕ)) → length digests ≤ i → drop i digests ≡ map digest_of (blocks_of rest)
+    → pieces ≡ front ++ blocks_of rest → pieces ≡ front
+none_left digests i rest pieces front end left all =
     let none : drop i digests ≡ [] = nil_from_length (drop i digests) (length-drop i digests ∙ (let z : length digests - i ≡ 0 = omega arith in z)) in
-    ap (λ ps. all_stored ps blocks) (no_digest (blocks_of rest) (sym left ∙ none))
+    all ∙ ap (λ (ps : List (List ℕ)). front ++ ps) (no_digest (blocks_of rest) (sym left ∙ none)) ∙ append-nil front

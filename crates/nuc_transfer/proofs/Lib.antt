@@ -1,0 +1,4 @@
+mod Growing
+mod Oks
+mod Originals
+mod Starts
