@@ -5,6 +5,8 @@ mod Keyed
 pub mod Landed
 pub mod Laying
 mod LocalAfter
+pub mod Notes
+pub mod Noticed
 mod Outcomes
 mod Steady
 mod Written
