@@ -1,4 +1,5 @@
 pub mod Ends
+mod Fitting
 pub mod Flying
 pub mod Kept
 mod Keyed

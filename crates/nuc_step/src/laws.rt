@@ -1,4 +1,4 @@
-ghost use Rattle.nuc_step.specs.Laws.{DoneWritesOnce, MoveKeepsKey, OneEnd, StayingKeepsKey, StepsKeepClients};
+ghost use Rattle.nuc_step.specs.Laws.{DoneWritesOnce, MoveKeepsKey, OneEnd, PlansKeepClients, StayingKeepsKey, StepsKeepClients};
 
 /// Two Dones of one operation, of one client and with the same recorded, have the same reply, and the same client and
 /// recorded come of them.
@@ -26,4 +26,10 @@ pub fn a_move_keeps_its_identity()
 /// in flight may be there.
 pub fn each_step_keeps_a_client()
     ensures { StepsKeepClients }
+{}
+
+/// After a plan a client is a client, with three trees that fit together and each identity in them below the next. So
+/// whoever only plans and adds to the trees what fits may plan again.
+pub fn a_plan_keeps_a_client()
+    ensures { PlansKeepClients }
 {}

@@ -22,7 +22,7 @@ pub use client::Client;
 pub use event::Event;
 pub use laws::{
     a_done_ends_in_one_way, a_done_writes_one_identity, a_move_keeps_its_identity,
-    each_step_keeps_a_client, what_stays_keeps_its_key,
+    a_plan_keeps_a_client, each_step_keeps_a_client, what_stays_keeps_its_key,
 };
 pub use log::{Log, LogEntry};
 pub use reason::Reason;
