@@ -27,7 +27,7 @@ use Rattle.nuc_conflict.proofs.Adoptions.{above_root}
 use Rattle.nuc_conflict.proofs.MendFacts.{mends_have_facts}
 
 -- a change puts no node of another kind
-abbrev PutsKind : Change → Kind → Type 0
+abbrev pub PutsKind : Change → Kind → Type 0
 PutsKind Keep kind = Unit {0}
 PutsKind (Put n) kind = n.kind ≡ kind
 PutsKind Cut kind = Unit {0}
@@ -64,7 +64,7 @@ fit_as r l s a b c next first second third good =
     (subst (λ m. FitBelow r m c next) (sym second) (subst (λ m. FitBelow r l m next) (sym third) good))
 
 -- one identity stands in some tree, and all three change it, each to a node of its kind
-record ChangesOne (r l s : Nodes) (next : ℕ) (op : Op) : Type 0 where
+pub record ChangesOne (r l s : Nodes) (next : ℕ) (op : Op) : Type 0 where
   pub node : Node
   pub there : (get r op.id.0 ≡ Some node) ⊎ ((get l op.id.0 ≡ Some node) ⊎ (get s op.id.0 ≡ Some node))
   pub remote : PutsKind op.remote node.kind
@@ -74,15 +74,15 @@ record ChangesOne (r l s : Nodes) (next : ℕ) (op : Op) : Type 0 where
   pub fits : FitsOp op
 
 module _ (r l s : Nodes) (next : ℕ) (good : FitBelow r l s next) where
-  abbrev Stands : ℕ → Node → Type 0
+  abbrev pub Stands : ℕ → Node → Type 0
   Stands x n = (get r x ≡ Some n) ⊎ ((get l x ≡ Some n) ⊎ (get s x ≡ Some n))
 
-  kind_in_remote : (x : ℕ) (n : Node) → Stands x n → SameKind r x n.kind
+  pub kind_in_remote : (x : ℕ) (n : Node) → Stands x n → SameKind r x n.kind
   kind_in_remote x n (inl at) h e = ap (λ (i : Node). i.kind) (one_node r x h n e at)
   kind_in_remote x n (inr (inl at)) h e = good.fit.remote_local x h n e at
   kind_in_remote x n (inr (inr at)) h e = good.fit.remote_synced x h n e at
 
-  kind_in_local : (x : ℕ) (n : Node) → Stands x n → SameKind l x n.kind
+  pub kind_in_local : (x : ℕ) (n : Node) → Stands x n → SameKind l x n.kind
   kind_in_local x n (inl at) h e = sym (good.fit.remote_local x n h at e)
   kind_in_local x n (inr (inl at)) h e = ap (λ (i : Node). i.kind) (one_node l x h n e at)
   kind_in_local x n (inr (inr at)) h e = good.fit.local_synced x h n e at
@@ -92,12 +92,12 @@ module _ (r l s : Nodes) (next : ℕ) (good : FitBelow r l s next) where
   kind_in_synced x n (inr (inl at)) h e = sym (good.fit.local_synced x n h at e)
   kind_in_synced x n (inr (inr at)) h e = ap (λ (i : Node). i.kind) (one_node s x h n e at)
 
-  counted : (x : ℕ) (n : Node) → Stands x n → (0 < x) × (x < next)
+  pub counted : (x : ℕ) (n : Node) → Stands x n → (0 < x) × (x < next)
   counted x n (inl at) = (above_root r x n good.fit.remote at, good.remote x n at)
   counted x n (inr (inl at)) = (above_root l x n good.fit.local at, good.local x n at)
   counted x n (inr (inr at)) = (above_root s x n good.fit.synced at, good.synced x n at)
 
-  changes_one : (op : Op) → ChangesOne r l s next op
+  pub changes_one : (op : Op) → ChangesOne r l s next op
       → FitBelow (changed r op.id.0 op.remote) (changed l op.id.0 op.local) (changed s op.id.0 op.synced) (next + 1)
   changes_one op one =
       let x : ℕ = op.id.0 in

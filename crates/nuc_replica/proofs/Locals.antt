@@ -49,7 +49,7 @@ any_other f (Some n) None has = has
 any_other f (Some n) (Some k) has = has
 
 -- x comes in place of y, with its key
-keys_renamed : (m k : Nodes) (ks : KeyMap) (y x key : ℕ) (node : Node) → IsRenamed m y x node k → HaveKeys m ks → HaveKeys k (insert (remove ks y) x key)
+pub keys_renamed : (m k : Nodes) (ks : KeyMap) (y x key : ℕ) (node : Node) → IsRenamed m y x node k → HaveKeys m ks → HaveKeys k (insert (remove ks y) x key)
 keys_renamed m k ks y x key node is have w = elim (same_or_not w x) [
   | inl same ↦ subst (λ z. HasKey (get k z) (get (insert (remove ks y) x key) z)) (sym same) (rw (is.came, numbers.get_put_same (remove ks y) x key) tt)
   | inr off ↦ elim (same_or_not w y) [

@@ -1,6 +1,7 @@
 mod AnyOrder
 mod Bringing
 pub mod Ends
+mod Fitting
 pub mod Flying
 pub mod Kept
 mod Keyed

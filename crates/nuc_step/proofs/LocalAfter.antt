@@ -4,19 +4,21 @@ use Rattle.std.specs.FinMap.{get, insert, remove}
 use Rattle.nuc_base.specs.Changes.{changed}
 use Rattle.nuc_base.specs.Legal.{LegalCut}
 use Rattle.nuc_base.specs.Ready.{LegalInTurn, all_changed}
+use Rattle.nuc_base.specs.Renamed.{IsRenamed}
 use Rattle.nuc_base.specs.Trees.{Nodes, WellFormed}
 use Rattle.nuc_base.specs.declared.change.Change.{Change}
 use Rattle.nuc_base.specs.declared.change.Change.TheVariants.{Keep, Put, Cut}
 use Rattle.nuc_base.specs.declared.node.Node.{Node}
 use Rattle.nuc_base.proofs.Changed.{tree_after}
 use Rattle.nuc_base.proofs.Commute.{same_after}
-use Rattle.nuc_base.proofs.Maps.{get_cut_other, get_cut_same, get_put_other, get_put_same, same_or_not}
+use Rattle.nuc_base.proofs.Maps.{get_cut_other, get_cut_same, get_put_other, get_put_same, not_both, same_or_not}
 use Rattle.nuc_class.specs.declared.op.Op.{Op}
 use Rattle.nuc_folder.specs.Outcome.{is_success}
 use Rattle.nuc_folder.specs.declared.outcome.Outcome.{Outcome}
 use Rattle.nuc_folder.specs.declared.outcome.Outcome.TheVariants as outcome
 use Rattle.nuc_lookup.proofs.Maps as numbers
 use Rattle.nuc_observe.specs.Keys.{AreKeys, IsUnheld, KeyMap}
+use Rattle.nuc_replica.proofs.Locals.{keys_renamed}
 use Rattle.nuc_replica.specs.Local.{HasKey, HaveKeys, IsLocal, LocalState, moved_key}
 use Rattle.nuc_step.specs.Sound.{FitsOutcome, HasOther, MayFly, makes, makes_new}
 use Rattle.nuc_step.specs.Steps.{KeyIsFree, LocalReady, is_split, keys_with, local_after, split_changes}
@@ -158,3 +160,23 @@ module _ (op : Op) (o : Outcome) (l : LocalState) (is : IsLocal l) (may : MayFly
   local_sound fits success ready =
       let keys = keys_sound (is_split op.verb) may.other (fits_made op o fits) success ready.old ready.key ready.legal in
       record { form = form_sound (is_split op.verb) may.other ready.legal; keys = keys.0; follow = keys.1 }
+
+-- ONE COMES IN PLACE OF ANOTHER, with its key
+module _ (l : LocalState) (y x : ℕ) (node own : Node) (k : Nodes) (is : IsLocal l) (some : 0 < x) (there : get l.tree y ≡ Some own)
+    (renamed : IsRenamed l.tree y x node k) where
+  some_y : 0 < y
+  some_y = elim (same_or_not y 0) [
+    | inl e ↦ absurd (not_both l.tree 0 own is.form.no_root (subst (λ z. get l.tree z ≡ Some own) e there))
+    | inr off ↦ omega (arith, off)
+  ]
+
+  keys_adopted : (key : Option ℕ) → get l.keys y ≡ key → AreKeys (moved_key l.keys y x key) × HaveKeys k (moved_key l.keys y x key)
+  keys_adopted None at = absurd (subst (λ o. HasKey (Some own) o) at (subst (λ o. HasKey o (get l.keys y)) there (is.follow y)))
+  keys_adopted (Some j) at = (
+    key_comes (remove l.keys y) x j (key_goes l.keys y is.keys some_y) some (key_some l.tree l.keys is.keys is.follow y j at)
+        (λ z held. let was = key_before l.keys y z j held in was.0 (is.keys.one_to_one z y j was.1 at)),
+    keys_renamed l.tree k l.keys y x j node renamed is.follow,
+  )
+
+  pub adopted_sound : WellFormed k → IsLocal (record { tree = k; keys = moved_key l.keys y x (get l.keys y) })
+  adopted_sound form = let keys = keys_adopted (get l.keys y) refl in record { form = form; keys = keys.0; follow = keys.1 }

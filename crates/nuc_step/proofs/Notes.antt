@@ -121,10 +121,10 @@ module _ (p : Planning) (op : Op) (can : CanPlan p.client p.next_id) where
   mend_sound is = All-head (IsSound p.client.local.tree p.client.synced) op []
       (plans_are_sound same p.client.remote.tree p.client.local.tree p.client.synced p.next_id (plan.Mend op) can is.1)
 
-  abbrev Facts : Verb → Type 0
+  abbrev pub Facts : Verb → Type 0
   Facts v = FactsOf same p.client.remote.tree p.client.local.tree p.client.synced p.next_id op v
 
-  mend_facts : IsPlanOf p (plan.Mend op) → Facts op.verb
+  pub mend_facts : IsPlanOf p (plan.Mend op) → Facts op.verb
   mend_facts is = mends_have_facts same p.client.remote.tree p.client.local.tree p.client.synced p.next_id op can is.1.mend
 
   mend_notes : (v : Verb) → op.verb ≡ v → Facts v → IsSound p.client.local.tree p.client.synced op → op.effect ≡ Nothing → v ≢ verb.Adopt → CanNote p.client op

@@ -14,8 +14,10 @@ use Rattle.nuc_journal.specs.declared.entry.Entry.{Entry}
 use Rattle.nuc_replica.specs.Remote.{Follows, RemoteState, caught_up}
 use Rattle.nuc_step.specs.Calls.{MayBeTaken}
 use Rattle.nuc_step.specs.Client.{ClientState}
+use Rattle.nuc_step.specs.Planning.{CanPlan, PlanAnswers, Planning}
 use Rattle.nuc_step.specs.Sound.{IsClient, MayFly}
 use Rattle.nuc_step.specs.Steps.{IsDone, after_fly, after_pull, after_restart, after_start, after_take, is_split}
+use Rattle.nuc_step.specs.declared.answers.Planned.{Planned}
 use Rattle.nuc_step.specs.declared.reply.DoneReply.{DoneReply}
 
 -- a Done ends in one way
@@ -71,3 +73,8 @@ pub record StepsKeep (c : ClientState) : Type 0 where
 
 abbrev pub StepsKeepClients : Type 0
 StepsKeepClients = (c : ClientState) → IsClient c → StepsKeep c
+
+-- whatever a plan makes of a client, it is one after it, and its trees fit together again, below the next identity
+abbrev pub PlansKeepClients : Type 0
+PlansKeepClients = (p q : Planning) (answer : Planned) → IsClient p.client → CanPlan p.client p.next_id → PlanAnswers p answer q
+    → IsClient q.client × CanPlan q.client q.next_id

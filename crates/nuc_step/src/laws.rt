@@ -1,5 +1,5 @@
 ghost use Rattle.nuc_step.specs.Holdings.{StepsBringNothingElse};
-ghost use Rattle.nuc_step.specs.Laws.{DoneWritesOnce, MoveKeepsKey, OneEnd, StayingKeepsKey, StepsKeepClients};
+ghost use Rattle.nuc_step.specs.Laws.{DoneWritesOnce, MoveKeepsKey, OneEnd, PlansKeepClients, StayingKeepsKey, StepsKeepClients};
 
 /// Two Dones of one operation, of one client and with the same recorded, have the same reply, and the same client and
 /// recorded come of them.
@@ -33,4 +33,10 @@ pub fn each_step_keeps_a_client()
 /// with the operations that fly, the page that is pulled or the news of a commit, or not at all.
 pub fn a_step_brings_nothing_else()
     ensures { StepsBringNothingElse }
+{}
+
+/// After a plan a client is a client, with three trees that fit together and each identity in them below the next. So
+/// whoever only plans and adds to the trees what fits may plan again.
+pub fn a_plan_keeps_a_client()
+    ensures { PlansKeepClients }
 {}

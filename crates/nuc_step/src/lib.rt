@@ -23,7 +23,8 @@ pub use client::Client;
 pub use event::Event;
 pub use laws::{
     a_done_ends_in_one_way, a_done_writes_one_identity, a_move_keeps_its_identity,
-    a_step_brings_nothing_else, each_step_keeps_a_client, what_stays_keeps_its_key,
+    a_plan_keeps_a_client, a_step_brings_nothing_else, each_step_keeps_a_client,
+    what_stays_keeps_its_key,
 };
 pub use log::{Log, LogEntry};
 pub use order::{

@@ -163,7 +163,8 @@ impl<T: TreeLike> Client<T> {
         let old = come_for(alloc, remote, &mut self.local, synced, op)?;
         trees_are_sound(&self.local, &self.synced);
         adopt(edits, Some(&old), &op.local);
-        self.counts = Counts { changes, next_op };
+        self.counts.changes = changes;
+        self.counts.next_op = next_op;
         Ok(())
     }
 
