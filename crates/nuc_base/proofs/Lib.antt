@@ -9,6 +9,7 @@ pub mod Children
 pub mod Commute
 pub mod Depths
 pub mod Differ
+pub mod Faulty
 pub mod Forms
 pub mod InTurn
 pub mod Maps

@@ -1,3 +1,5 @@
+mod Apart
 mod Bound
 mod Inverse
+mod Grown
 mod Undoing

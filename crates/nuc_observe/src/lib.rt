@@ -2,11 +2,19 @@
 #![tactic(auto)]
 
 mod binding;
+mod item_place;
+mod item_size;
+mod judge;
 mod kept;
 mod keys;
+#[cfg(test)]
+mod listing_tests;
+mod seen;
 #[cfg(test)]
 mod tests;
 
 pub use binding::Binding;
+pub use judge::first_bad;
+pub use item_size::MOST_BYTES;
 pub use kept::kept_version;
 pub use keys::{Keys, keys_are_one_to_one};
