@@ -209,12 +209,12 @@ impl<T: TreeLike> Local<T> {
             .checked_add(3)
             .ok_or(AllocError)?;
         self.reserve(changes)?;
-        let Some(key) = self.keys.key_of(id) else {
+        let Some(held) = self.keys.key_of(id) else {
             unreachable!()
         };
         rename(&mut self.tree, id, to, node, nodes);
         cut_key(&mut self.keys, id);
-        put_key(&mut self.keys, to, key);
+        put_key(&mut self.keys, to, held);
         Ok(())
     }
 
