@@ -3,8 +3,12 @@
 
 mod call;
 mod calls;
+#[cfg(test)]
+mod recorder;
 mod run;
 mod steps;
+#[cfg(test)]
+mod tests;
 
 pub use call::Call;
 pub use run::run_op;
