@@ -9,11 +9,11 @@ use Rattle.std.specs.declared.cmp.Ordering.TheVariants.{Less, Equal, Greater}
 use Rattle.std.proofs.lemmas.Cmp.{nat_list_cmp_total}
 use Rattle.std.proofs.lemmas.List.Sums.{prefix_len-le-length}
 use Rattle.nuc_base.specs.SamePlace.{SameName, is_same_name, is_same_name-tells, same_name-sym, equal_names-same}
-use Rattle.nuc_folder.specs.Folder.{FileData, FolderData}
-use Rattle.nuc_folder.specs.Formed.{IsFormed}
-use Rattle.nuc_folder.specs.Write.{comes_after, has_name, place_of, refilled, written, written_at, written_to, edited}
-use Rattle.nuc_folder.specs.declared.user.UserEdit.{UserEdit}
-use Rattle.nuc_folder.specs.declared.user.UserEdit.TheVariants.{Write}
+use Rattle.nuc_folder.specs.FlatFolder.{FileData, FolderData}
+use Rattle.nuc_folder.specs.FlatFormed.{IsFormed}
+use Rattle.nuc_folder.specs.FlatWrite.{comes_after, has_name, place_of, refilled, written, written_at, written_to, edited}
+use Rattle.nuc_folder.specs.declared.flat_edit.FlatEdit.{FlatEdit}
+use Rattle.nuc_folder.specs.declared.flat_edit.FlatEdit.TheVariants.{Write}
 use Rattle.nuc_hash.specs.Filling.{filling_bytes}
 use Rattle.nuc_folder.proofs.Inserts.{all_insert, all_pairs_insert, place-is, position-None, position_or_len-at, position_or_len-before}
 
@@ -158,5 +158,5 @@ formed-written_to [] bytes folder formed = formed
 formed-written_to (name ∷ []) bytes folder formed = formed-written name bytes folder formed
 formed-written_to (name ∷ more ∷ names) bytes folder formed = formed
 
-pub formed-edited : (edit : UserEdit) (folder : FolderData) → IsFormed folder → IsFormed (edited edit folder).1
+pub formed-edited : (edit : FlatEdit) (folder : FolderData) → IsFormed folder → IsFormed (edited edit folder).1
 formed-edited (Write path filling) folder formed = formed-written_to path.names (filling_bytes filling) folder formed

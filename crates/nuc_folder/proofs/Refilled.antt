@@ -1,7 +1,7 @@
 use Rattle.std.proofs.Common.{◌≡◌, ℕ, zero, suc, ◌<◌, List, [], ◌∷◌, length, get_or, refl, ap, arith}
 use Rattle.std.proofs.Math.ListN.{set}
-use Rattle.nuc_folder.specs.Folder.{FileData}
-use Rattle.nuc_folder.specs.Write.{refilled}
+use Rattle.nuc_folder.specs.FlatFolder.{FileData}
+use Rattle.nuc_folder.specs.FlatWrite.{refilled}
 
 -- the file at an index, with other bytes, written back there
 pub set-refilled : (files : List FileData) (index : ℕ) (bytes : List ℕ) (d : FileData) → index < length files

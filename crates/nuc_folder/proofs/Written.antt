@@ -1,6 +1,6 @@
 use Rattle.std.proofs.Common.{◌≡◌, ℕ, List, Some, None, Result, Ok, Err, OnOk, position, ap}
-use Rattle.nuc_folder.specs.Folder.{FolderData}
-use Rattle.nuc_folder.specs.Write.{has_name, refilled, written, written_at}
+use Rattle.nuc_folder.specs.FlatFolder.{FolderData}
+use Rattle.nuc_folder.specs.FlatWrite.{has_name, refilled, written, written_at}
 
 -- a write to the name of a file there
 pub written-there : (name bytes : List ℕ) (folder : FolderData) (index : ℕ) → position (has_name name) folder.files ≡ Some index

@@ -1,5 +1,8 @@
-pub mod Folder
-pub mod Formed
+pub mod Answers
+pub mod FlatFolder
+pub mod FlatFormed
+pub mod FlatListing
+pub mod FlatWrite
 pub mod Listing
 pub mod Outcome
-pub mod Write
+pub mod State

@@ -19,6 +19,8 @@ pub struct Item {
     /// What the file holds; a folder has none.
     pub content: Option<Content>,
     pub name: RawName,
+    /// Whether the file may be executed; a folder never has it.
+    pub bit: bool,
 }
 
 impl Item {
@@ -34,6 +36,7 @@ impl Item {
             parent: self.parent,
             content,
             name: Items::from_slice(alloc, self.name.as_slice())?,
+            bit: self.bit,
         })
     }
 }

@@ -1,20 +1,31 @@
-//! A client's folder: what a user does in it, and what it lists.
+//! A client's folder: what it holds, how it answers who reads and changes it, and what a user does in it.
 #![tactic(auto)]
 
+mod flat_edit;
+mod flat_file;
+mod flat_folder;
+#[cfg(test)]
+mod flat_tests;
+mod folder;
 mod item;
 mod key_place;
-mod mem_file;
-mod mem_folder;
+mod listed;
+mod noticed;
 mod outcome;
+mod ran;
 mod read_back;
-mod user;
-
-pub use item::{Item, Key, RawName};
-pub use key_place::KeyPlace;
-pub use mem_folder::MemFolder;
-pub use outcome::Outcome;
-pub use read_back::ReadBack;
-pub use user::{UserEdit, UserReply};
-
+mod seen;
 #[cfg(test)]
 mod tests;
+
+pub use flat_edit::{FlatEdit, FlatReply};
+pub use flat_folder::FlatFolder;
+pub use folder::Folder;
+pub use item::{Item, Key, RawName};
+pub use key_place::KeyPlace;
+pub use listed::{Listed, MOST_ITEMS};
+pub use noticed::Noticed;
+pub use outcome::Outcome;
+pub use ran::RanOp;
+pub use read_back::ReadBack;
+pub use seen::Seen;

@@ -5,7 +5,9 @@ use sqlite_items::Items;
 pub enum ReadBack {
     /// The file's bytes.
     Bytes(Items<u8>),
-    /// The file isn't there any more.
+    /// The key isn't that of a file that is there.
     Changed,
+    /// The folder failed.
+    Failed,
     Memory,
 }

@@ -4,7 +4,7 @@ ghost use Rattle.nuc_io.specs.Calls.{is_to_fail, after_call, one_more};
 use std::alloc::{AllocError, Global};
 use std::marker::Model;
 
-/// Which calls of an object in memory fail.
+/// Which calls of an object in memory fail. It counts them, and those that have failed.
 #[derive(Debug, Drop)]
 pub struct Calls {
     made: u64,
@@ -21,6 +21,7 @@ impl Model for Calls {
 }
 
 impl Calls {
+    /// None was made, and none is to fail.
     pub fn new(alloc: Global) -> Calls
         ensures { result ≡ record { made = 0; failing = []; faults = 0 } }
     {

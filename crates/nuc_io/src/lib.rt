@@ -11,6 +11,7 @@ mod std_sink;
 mod std_source;
 mod write;
 
+pub use calls::Calls;
 pub use line::{Line, LineBuf, read_line};
 pub use mem_sink::MemSink;
 pub use mem_source::MemSource;

@@ -1,4 +1,4 @@
-use Rattle.std.proofs.Common.{◌≡◌, ◌≢◌, refl, ap, sym, ◌∙◌, ℕ, List, [], ◌∷◌, ◌++◌, append_assoc, Option, Some, None, codes}
+use Rattle.std.proofs.Common.{Bool, true, false, ◌≡◌, ◌≢◌, refl, ap, sym, ◌∙◌, ℕ, List, [], ◌∷◌, ◌++◌, append_assoc, Option, Some, None, codes}
 use Rattle.std.specs.Fmt.{decimal}
 use Rattle.nuc_hash.specs.Content.{ContentData}
 use Rattle.nuc_edits.specs.declared.edit.Edit.{Edit}
@@ -90,17 +90,17 @@ step_text event reply happened answer lines text h a l t =
     rw (h, a, line-append _ _ (event_has_words event) (reply_has_words reply), line-joined _ (reply_has_words reply)) refl in
     rw (one, ← l, append_assoc) (rw append_assoc t)
 
-line-content : (content : Option ContentData) (key parent name : List ℕ)
-    → codes "item " ++ (key ++ (32 ∷ (parent ++ (32 ∷ (joined (content_words content) ++ (32 ∷ (name ++ 10 ∷ [])))))))
-    ≡ line (codes "item" ∷ key ∷ parent ∷ content_words content ++ name ∷ [])
-line-content None key parent name = refl
-line-content (Some content) key parent name = simp append_assoc
+line-content : (bit : Bool) (content : Option ContentData) (key parent name : List ℕ)
+    → codes "item " ++ (key ++ (32 ∷ (parent ++ (32 ∷ (joined (content_words bit content) ++ (32 ∷ (name ++ 10 ∷ [])))))))
+    ≡ line (codes "item" ∷ key ∷ parent ∷ content_words bit content ++ name ∷ [])
+line-content bit None key parent name = refl
+line-content bit (Some content) key parent name = simp append_assoc
 
 -- the line of an item, written in its parts
-pub item_text : (item : Item) (content name text : List ℕ) → content ≡ joined (content_words item.content) → name ≡ escaped item.name
+pub item_text : (item : Item) (content name text : List ℕ) → content ≡ joined (content_words item.bit item.content) → name ≡ escaped item.name
     → text ≡ codes "item " ++ (decimal item.key.0 ++ (32 ∷ (decimal item.parent.0 ++ (32 ∷ (content ++ (32 ∷ (name ++ 10 ∷ [])))))))
     → text ≡ item_line item
-item_text item content name text c n t = t ∙ rw (c, n) (line-content item.content (decimal item.key.0) (decimal item.parent.0) (escaped item.name))
+item_text item content name text c n t = t ∙ rw (c, n) (line-content item.bit item.content (decimal item.key.0) (decimal item.parent.0) (escaped item.name))
 
 line-change : (what : EditKind) (ver id base : List ℕ)
     → codes "edit " ++ (ver ++ (32 ∷ (id ++ (32 ∷ (base ++ (32 ∷ (joined (change_words what) ++ 10 ∷ [])))))))

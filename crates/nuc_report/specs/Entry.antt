@@ -4,10 +4,10 @@ use Rattle.std.specs.List.{flat_map}
 use Rattle.hex.specs.Hex.{encode_lower}
 use Rattle.nuc_hash.specs.Content.{ContentData}
 use Rattle.nuc_folder.specs.declared.item.Item.{Item}
-use Rattle.nuc_folder.specs.declared.user.UserEdit.{UserEdit}
-use Rattle.nuc_folder.specs.declared.user.UserEdit.TheVariants.{Write}
-use Rattle.nuc_folder.specs.declared.user.UserReply.{UserReply}
-use Rattle.nuc_folder.specs.declared.user.UserReply.TheVariants as user
+use Rattle.nuc_folder.specs.declared.flat_edit.FlatEdit.{FlatEdit}
+use Rattle.nuc_folder.specs.declared.flat_edit.FlatEdit.TheVariants.{Write}
+use Rattle.nuc_folder.specs.declared.flat_edit.FlatReply.{FlatReply}
+use Rattle.nuc_folder.specs.declared.flat_edit.FlatReply.TheVariants as user
 use Rattle.nuc_class.specs.declared.op.Op.{Op}
 use Rattle.nuc_class.specs.declared.op.Verb.{Verb}
 use Rattle.nuc_class.specs.declared.op.Verb.TheVariants as verb
@@ -28,13 +28,17 @@ use Rattle.nuc_report.specs.Web.{web_words, web_reply_words}
 use Rattle.nuc_report.specs.Done.{done_words}
 
 -- kind, size and hash; a folder has no bytes
-abbrev pub content_words : Option ContentData → List (List ℕ)
-content_words None = codes "folder" ∷ codes "0" ∷ codes "-" ∷ []
-content_words (Some content) = codes "file" ∷ decimal content.size ∷ encode_lower content.hash.0 ∷ []
+abbrev pub file_word : Bool → List ℕ
+file_word true = codes "program"
+file_word false = codes "file"
+
+abbrev pub content_words : Bool → Option ContentData → List (List ℕ)
+content_words bit None = codes "folder" ∷ codes "0" ∷ codes "-" ∷ []
+content_words bit (Some content) = file_word bit ∷ decimal content.size ∷ encode_lower content.hash.0 ∷ []
 
 abbrev pub item_line : Item → List ℕ
 item_line item =
-    line (codes "item" ∷ decimal item.key.0 ∷ decimal item.parent.0 ∷ content_words item.content ++ escaped item.name ∷ [])
+    line (codes "item" ∷ decimal item.key.0 ∷ decimal item.parent.0 ∷ content_words item.bit item.content ++ escaped item.name ∷ [])
 
 abbrev pub verb_word : Verb → List ℕ
 verb_word verb.Down = codes "down"
@@ -51,7 +55,7 @@ verb_word verb.Evict = codes "evict"
 abbrev pub op_line : Op → List ℕ
 op_line op = line (codes "op" ∷ decimal op.number ∷ verb_word op.verb ∷ decimal op.id.0 ∷ decimal op.other.0 ∷ [])
 
-abbrev pub edit_words : UserEdit → List (List ℕ)
+abbrev pub edit_words : FlatEdit → List (List ℕ)
 edit_words (Write path filling) = codes "write" ∷ path_word path ∷ filling_word filling ∷ []
 
 abbrev pub event_words : Event → List (List ℕ)
@@ -66,7 +70,7 @@ event_words (event.Take client number) = codes "take" ∷ decimal client ∷ dec
 event_words (event.Done client number) = codes "done" ∷ decimal client ∷ decimal number ∷ []
 event_words (event.Mark client) = codes "sync" ∷ decimal client ∷ []
 
-abbrev pub user_word : UserReply → List ℕ
+abbrev pub user_word : FlatReply → List ℕ
 user_word user.Ok = codes "ok"
 user_word user.NoParent = codes "noparent"
 user_word user.Memory = codes "memory"

@@ -1,14 +1,14 @@
 ghost use Rattle.std.specs.Prelude.{◌≡◌, ◌++◌, IfOk, OnOk};
 ghost use Rattle.std.specs.String.{string_bytes};
 ghost use Rattle.nuc_report.specs.Line.{joined};
-ghost use Rattle.nuc_report.specs.Entry.{content_words, item_line, op_line, edit_words, event_words, reply_words, reply_lines, entry_text, user_word, verb_word};
+ghost use Rattle.nuc_report.specs.Entry.{content_words, file_word, item_line, op_line, edit_words, event_words, reply_words, reply_lines, entry_text, user_word, verb_word};
 ghost use Rattle.std.specs.List.{flat_map};
 
 use crate::done::done_text;
 use crate::web::{web_reply_text, web_text};
 use crate::words::{escaped, filling_word, path_word};
 use nuc_class::{Op, Verb};
-use nuc_folder::{Item, UserEdit, UserReply};
+use nuc_folder::{Item, FlatEdit, FlatReply};
 use nuc_hash::{Content, hash_text};
 use nuc_step::{Event, LogEntry, MarkReply, PlanReply, Reply, ScanReply, StartReply, TakeReply};
 use std::alloc::{AllocError, Global};
@@ -36,22 +36,33 @@ pub(crate) fn item_line(alloc: Global, item: &Item) -> Result<String, AllocError
 {
     let key = item.key.0;
     let parent = item.parent.0;
-    let content = content_text(alloc, &item.content)?;
+    let content = content_text(alloc, item.bit, &item.content)?;
     let name = escaped(alloc, item.name.as_slice())?;
     format!(in alloc; "item {key} {parent} {content} {name}\n")
 }
 
-fn content_text(alloc: Global, content: &Option<Content>) -> Result<String, AllocError>
-    ensures { IfOk result (λ text. string_bytes text ≡ joined (content_words content.now)) }
+fn content_text(
+    alloc: Global,
+    bit: bool,
+    content: &Option<Content>,
+) -> Result<String, AllocError>
+    ensures { IfOk result (λ text. string_bytes text ≡ joined (content_words bit content.now)) }
 {
     match content {
         None => String::from_str(alloc, "folder 0 -"),
         Some(content) => {
             let size = content.size();
             let hash = hash_text(alloc, content.hash())?;
-            format!(in alloc; "file {size} {hash}")
+            let file = file_word(bit);
+            format!(in alloc; "{file} {size} {hash}")
         }
     }
+}
+
+fn file_word(bit: bool) -> &'static str
+    ensures { result.now ≡ file_word bit }
+{
+    if bit { "program" } else { "file" }
 }
 
 fn op_line(alloc: Global, op: &Op) -> Result<String, AllocError>
@@ -81,11 +92,11 @@ fn verb_word(verb: Verb) -> &'static str
     }
 }
 
-fn edit_text(alloc: Global, edit: &UserEdit) -> Result<String, AllocError>
+fn edit_text(alloc: Global, edit: &FlatEdit) -> Result<String, AllocError>
     ensures { IfOk result (λ text. string_bytes text ≡ joined (edit_words edit.now)) }
 {
     match edit {
-        UserEdit::Write(path, filling) => {
+        FlatEdit::Write(path, filling) => {
             let path = path_word(alloc, path)?;
             let filling = filling_word(alloc, filling)?;
             format!(in alloc; "write {path} {filling}")
@@ -140,13 +151,13 @@ fn reply_text(alloc: Global, reply: &Reply) -> Result<String, AllocError>
     }
 }
 
-fn user_word(answer: &UserReply) -> &'static str
+fn user_word(answer: &FlatReply) -> &'static str
     ensures { result.now ≡ user_word answer.now }
 {
     match answer {
-        UserReply::Ok => "ok",
-        UserReply::NoParent => "noparent",
-        UserReply::Memory => "memory",
+        FlatReply::Ok => "ok",
+        FlatReply::NoParent => "noparent",
+        FlatReply::Memory => "memory",
     }
 }
 

@@ -34,6 +34,7 @@ fn items(alloc: Global) -> Result<Items<Item>, Fail> {
         parent: Key(0),
         content: Some(content_of(alloc, b"hello")?),
         name: Items::from_slice(alloc, b"a.txt")?,
+        bit: false,
     })?;
     Ok(items)
 }

@@ -16,14 +16,14 @@ use Rattle.nuc_base.proofs.Forms.{empty_form}
 use Rattle.nuc_base.proofs.Maps.{after_put, get_put_other, same_or_not, not_both}
 use Rattle.nuc_edits.specs.Edits.{EditsState, Recorded}
 use Rattle.nuc_edits.specs.declared.edit.Edit.{Edit}
-use Rattle.nuc_folder.specs.Folder.{FileData, FolderData}
-use Rattle.nuc_folder.specs.Listing.{item_of, has_key}
-use Rattle.nuc_folder.specs.Write.{refilled, written, written_at, written_to, edited, Answers}
+use Rattle.nuc_folder.specs.FlatFolder.{FileData, FolderData}
+use Rattle.nuc_folder.specs.FlatListing.{item_of, has_key}
+use Rattle.nuc_folder.specs.FlatWrite.{refilled, written, written_at, written_to, edited, Answers}
 use Rattle.nuc_folder.specs.declared.item.Item.{Item}
-use Rattle.nuc_folder.specs.declared.user.UserEdit.{UserEdit}
-use Rattle.nuc_folder.specs.declared.user.UserEdit.TheVariants as edit
-use Rattle.nuc_folder.specs.declared.user.UserReply.{UserReply}
-use Rattle.nuc_folder.specs.declared.user.UserReply.TheVariants as reply
+use Rattle.nuc_folder.specs.declared.flat_edit.FlatEdit.{FlatEdit}
+use Rattle.nuc_folder.specs.declared.flat_edit.FlatEdit.TheVariants as edit
+use Rattle.nuc_folder.specs.declared.flat_edit.FlatReply.{FlatReply}
+use Rattle.nuc_folder.specs.declared.flat_edit.FlatReply.TheVariants as reply
 use Rattle.nuc_class.specs.declared.op.Op.{Op}
 use Rattle.nuc_base.specs.declared.change.Change.TheVariants.{Put}
 use Rattle.std.specs.Result.{is_err}
@@ -134,11 +134,11 @@ written_to_stays [] bytes folder a here = stays_itself a _ here
 written_to_stays (name ∷ []) bytes folder a here = written_stays name bytes folder a here
 written_to_stays (name ∷ next ∷ names) bytes folder a here = stays_itself a _ here
 
-pub edited_stays : (e : UserEdit) (folder : FolderData) (a : Item) → IsAmong a (listing folder) → Stays a (listing (edited e folder).1)
+pub edited_stays : (e : FlatEdit) (folder : FolderData) (a : Item) → IsAmong a (listing folder) → Stays a (listing (edited e folder).1)
 edited_stays (edit.Write path filling) folder a here = written_to_stays path.names _ folder a here
 
 -- a user's edit keeps all bonds
-pub observed_edited : (s : State) (e : UserEdit) (new : FolderData) → new ≡ (edited e s.folder).1
+pub observed_edited : (s : State) (e : FlatEdit) (new : FolderData) → new ≡ (edited e s.folder).1
     → IsObserved (listing s.folder) s.client.local s.client.keys s.edits s.ids → IsObserved (listing new) s.client.local s.client.keys s.edits s.ids
 observed_edited s e new is o = record {
   form = o.form;
@@ -269,7 +269,7 @@ err_then (Ok x) p f = tt
 err_then (Err e) p f = f p
 
 -- what an edit answers has the folder that it leads to
-pub answered_folder : (e : UserEdit) (old new : FolderData) (r : UserReply) → r ≢ reply.Memory → Answers e old r new → new ≡ (edited e old).1
+pub answered_folder : (e : FlatEdit) (old new : FolderData) (r : FlatReply) → r ≢ reply.Memory → Answers e old r new → new ≡ (edited e old).1
 answered_folder e old new reply.Ok other answers = sym (ap (λ p. p.1) answers)
 answered_folder e old new reply.NoParent other answers = sym (ap (λ p. p.1) answers)
 answered_folder e old new reply.Memory other answers = absurd (other refl)

@@ -5,7 +5,7 @@ use Rattle.nuc_base.specs.declared.node.Node.{Node}
 use Rattle.nuc_base.specs.Trees.{Nodes, WellFormed}
 use Rattle.nuc_base.specs.declared.change.Change.TheVariants.{Put}
 use Rattle.nuc_edits.specs.declared.edit.Edit.{Edit}
-use Rattle.nuc_folder.specs.Formed.{IsFormed}
+use Rattle.nuc_folder.specs.FlatFormed.{IsFormed}
 use Rattle.nuc_folder.specs.declared.item.Item.{Item}
 use Rattle.nuc_journal.specs.declared.entry.Entry.{Entry}
 use Rattle.nuc_run.specs.Good.{AreKept, IsAmong, IsObserved}

@@ -11,7 +11,7 @@ use Rattle.nuc_base.specs.declared.change.Change.{Change}
 use Rattle.nuc_base.specs.declared.change.Change.TheVariants.{Keep, Put, Cut}
 use Rattle.nuc_class.specs.declared.op.Op.{Op}
 use Rattle.nuc_folder.proofs.Formed.{formed-edited, formed-empty}
-use Rattle.nuc_folder.specs.declared.user.UserEdit.{UserEdit}
+use Rattle.nuc_folder.specs.declared.flat_edit.FlatEdit.{FlatEdit}
 use Rattle.nuc_step.specs.declared.event.Event.{Event}
 use Rattle.nuc_step.specs.declared.event.Event.TheVariants as event
 use Rattle.nuc_journal.specs.declared.entry.Entry.{Entry}
@@ -20,7 +20,7 @@ use Rattle.nuc_run.specs.Plan.{due_at, numbered}
 use Rattle.nuc_run.specs.Scan.{observed}
 use Rattle.nuc_journal.specs.Entries.{tree_of, tree_after}
 use Rattle.nuc_run.specs.State.{Flight, Listing, Stage, State, fresh, planned, started, taken}
-use Rattle.nuc_folder.specs.Write.{edited}
+use Rattle.nuc_folder.specs.FlatWrite.{edited}
 use Rattle.nuc_run.specs.Step.{after, after_done, after_list, after_plan, after_pull, after_scan, after_start, after_take, as_planned, before_listing, bytes_for, done_at, done_by, flight_of, listing, news, next_entry, page, planned_batch, read_by, staged, take_at, taken_by, with_started, without}
 use Rattle.nuc_run.proofs.GoodLemmas.{good_fresh, apart_of, edited_stays, observed_edited, stays_itself}
 use Rattle.nuc_run.proofs.Kept.{AllFly, AllServed, IsHeldOf, IsReached, IsServed, IsTakenAs, Kept}
@@ -52,14 +52,14 @@ kept_fresh = record {
 }
 
 -- THE USER edits the folder
-still_edited : (e : UserEdit) (s : State) (held : Option Listing) → IsHeldOf (listing s.folder) held → IsHeldOf (listing (edited e s.folder).1) held
+still_edited : (e : FlatEdit) (s : State) (held : Option Listing) → IsHeldOf (listing s.folder) held → IsHeldOf (listing (edited e s.folder).1) held
 still_edited e s None still = tt
 still_edited e s (Some held) still = λ a among.
     let was = still a among in
     let now = edited_stays e s.folder was.item was.among in
     record { item = now.item; among = now.among; key = now.key ∙ was.key; name = now.name ∙ was.name }
 
-kept_user : (e : UserEdit) (s : State) → Kept s → Kept (record s { folder = (edited e s.folder).1 })
+kept_user : (e : FlatEdit) (s : State) → Kept s → Kept (record s { folder = (edited e s.folder).1 })
 kept_user e s kept = record {
   folder = formed-edited e s.folder kept.folder;
   held = still_edited e s s.client.held kept.held;

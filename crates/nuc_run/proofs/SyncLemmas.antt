@@ -6,8 +6,8 @@ use Rattle.std.specs.List.{list_any}
 use Rattle.nuc_script.specs.Grammar.{ComeBehind, IsBuilt, IsNew, IsScript, is_web}
 use Rattle.nuc_script.specs.declared.command.Command.{Command}
 use Rattle.nuc_script.specs.declared.command.Command.TheVariants as command
-use Rattle.nuc_folder.specs.declared.user.UserEdit.{UserEdit}
-use Rattle.nuc_folder.specs.declared.user.UserEdit.TheVariants as edit
+use Rattle.nuc_folder.specs.declared.flat_edit.FlatEdit.{FlatEdit}
+use Rattle.nuc_folder.specs.declared.flat_edit.FlatEdit.TheVariants as edit
 use Rattle.nuc_hash.specs.declared.filling.Filling.TheVariants as filling
 use Rattle.nuc_server.specs.declared.web_edit.WebEdit.{WebEdit}
 use Rattle.nuc_step.specs.declared.event.Event.TheVariants as event
@@ -74,11 +74,11 @@ built_at before (d ∷ ds) (suc i) c all e = built_at (before ++ d ∷ []) ds i 
 client_is : (client : ℕ) → IsBuilt (command.Sync client) → client ≡ 1
 client_is client built = built
 
-user_client : (client : ℕ) (e : UserEdit) → IsBuilt (command.User client e) → client ≡ 1
+user_client : (client : ℕ) (e : FlatEdit) → IsBuilt (command.User client e) → client ≡ 1
 user_client client (edit.Write path (filling.Given bytes)) built = built.0
 
 -- a command is for the one client
-pub user_tasks : (c : Command) (client : ℕ) (e : UserEdit) → IsBuilt c → c ≡ command.User client e → once (event.User 1 e) ∷ [] ≡ tasks_of c
+pub user_tasks : (c : Command) (client : ℕ) (e : FlatEdit) → IsBuilt c → c ≡ command.User client e → once (event.User 1 e) ∷ [] ≡ tasks_of c
 user_tasks c client e built is =
     ap (λ k. once (event.User k e) ∷ []) (sym (user_client client e (subst IsBuilt is built))) ∙ sym (ap tasks_of is)
 

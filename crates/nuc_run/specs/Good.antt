@@ -13,7 +13,7 @@ use Rattle.nuc_class.specs.declared.op.Op.{Op}
 use Rattle.nuc_class.specs.Op.{up_of_new}
 use Rattle.nuc_edits.specs.declared.edit.Edit.{Edit}
 use Rattle.nuc_edits.specs.Edits.{IsNext}
-use Rattle.nuc_folder.specs.Folder.{FolderData}
+use Rattle.nuc_folder.specs.FlatFolder.{FolderData}
 use Rattle.nuc_folder.specs.declared.item.Item.{Item}
 use Rattle.nuc_step.specs.declared.event.Event.TheVariants as event
 use Rattle.nuc_step.specs.declared.log.LogEntry.{LogEntry}

@@ -7,7 +7,7 @@ use Rattle.nuc_blocks.specs.Blocks.{Blocks}
 use Rattle.nuc_edits.specs.declared.edit.Adoption.{Adoption}
 use Rattle.nuc_edits.specs.declared.edit.Edit.{Edit}
 use Rattle.nuc_class.specs.declared.op.Op.{Op}
-use Rattle.nuc_folder.specs.Folder.{FolderData}
+use Rattle.nuc_folder.specs.FlatFolder.{FolderData}
 use Rattle.nuc_folder.specs.declared.item.Item.{Item}
 use Rattle.nuc_run.specs.declared.client.Binding.{Binding}
 use Rattle.nuc_journal.specs.declared.entry.Entry.{Entry}

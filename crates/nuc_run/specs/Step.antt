@@ -9,9 +9,9 @@ use Rattle.std.specs.Option.{option_map}
 use Rattle.nuc_class.specs.declared.op.Op.{Op}
 use Rattle.nuc_base.specs.declared.change.Change.{Change}
 use Rattle.nuc_base.specs.declared.change.Change.TheVariants.{Put}
-use Rattle.nuc_folder.specs.Folder.{FolderData}
-use Rattle.nuc_folder.specs.Listing.{item_of, has_key}
-use Rattle.nuc_folder.specs.Write.{edited}
+use Rattle.nuc_folder.specs.FlatFolder.{FolderData}
+use Rattle.nuc_folder.specs.FlatListing.{item_of, has_key}
+use Rattle.nuc_folder.specs.FlatWrite.{edited}
 use Rattle.nuc_folder.specs.declared.item.Item.{Item}
 use Rattle.nuc_hash.specs.Content.{blocks_of}
 use Rattle.nuc_journal.specs.Journal.{IsJournal}

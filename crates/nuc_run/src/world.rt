@@ -31,7 +31,7 @@ use nuc_base::{Change, Counters, Node, put_legal};
 use nuc_blocks::Store;
 use nuc_class::Op;
 use nuc_edits::Edits;
-use nuc_folder::{Item, MemFolder, ReadBack, UserEdit, UserReply};
+use nuc_folder::{Item, FlatFolder, ReadBack, FlatEdit, FlatReply};
 use nuc_hash::{Content, content_of};
 use nuc_server::{Commit, CommitReply, LoopServer, keep_blocks};
 use nuc_step::{
@@ -51,7 +51,7 @@ pub struct World {
     pub store: Store,
     pub edits: Edits,
     pub ids: Counters,
-    pub folder: MemFolder,
+    pub folder: FlatFolder,
     pub client: Client,
 }
 
@@ -69,13 +69,13 @@ impl World {
                 next_id: 1,
                 next_ver: 1,
             },
-            folder: MemFolder::new(alloc),
+            folder: FlatFolder::new(alloc),
             client: Client::new(alloc),
         }
     }
 
     /// The user edits the folder.
-    pub fn user(&mut self, alloc: Global, log: &mut Log, edit: &UserEdit) -> Result<(), AllocError>
+    pub fn user(&mut self, alloc: Global, log: &mut Log, edit: &FlatEdit) -> Result<(), AllocError>
         ensures calm { OnOk result (Calm (at_rest self.old) → Calm (at_rest self.new)) }
         ensures good { OnOk result (Good (at_rest self.old) → Good (at_rest self.new)) }
         ensures step { OnOk result (Did log.old.entries log.new.entries (at_rest self.old) (once (event.User CLIENT edit.now) ∷ []) (at_rest self.new) []) }
@@ -86,7 +86,7 @@ impl World {
             edit: edit.copy(alloc)?,
         };
         match self.folder.user(alloc, edit) {
-            UserReply::Memory => Err(AllocError),
+            FlatReply::Memory => Err(AllocError),
             reply => record(log, event, Reply::User(reply)),
         }
     }
@@ -256,6 +256,7 @@ impl World {
             ReadBack::Bytes(bytes) => bytes,
             ReadBack::Memory => return Err(AllocError),
             ReadBack::Changed => unreachable!(),
+            ReadBack::Failed => unreachable!(),
         };
         let event = Event::Start {
             client: CLIENT,

@@ -2,7 +2,7 @@
 use Rattle.std.proofs.Common.{◌≡◌, ◌≤◌, ◌<◌, ℕ, Bool, true, false, not, List, [], ◌∷◌, length, get_or, MatchBool, refl, sym, ap, ◌∙◌, arith}
 use Rattle.std.specs.List.{list_any}
 use Rattle.nuc_base.specs.SamePlace.{SameName, is_same_name, is_same_name-tells}
-use Rattle.nuc_folder.specs.declared.user.UserEdit.{UserEdit}
+use Rattle.nuc_folder.specs.declared.flat_edit.FlatEdit.{FlatEdit}
 use Rattle.nuc_script.specs.Grammar.{IsNew, is_same_path, path_of, writes}
 use Rattle.nuc_script.specs.declared.command.Command.{Command}
 use Rattle.nuc_script.specs.declared.command.Command.TheVariants as command
@@ -24,7 +24,7 @@ pub same_told : (one other : List (List ℕ)) (a b : List ℕ) (r : Bool) → on
 same_told one other a b r is is' told =
     both_tell r (is_same_name a b) (SameName a b) told (is_same_name-tells a b) ∙ sym (ap (λ l. is_same_path l other) is ∙ ap (is_same_path (a ∷ [])) is')
 
-pub new_told : (before : List Command) (client : ℕ) (edit : UserEdit) (names : List (List ℕ)) (r : Bool) → names ≡ path_of edit
+pub new_told : (before : List Command) (client : ℕ) (edit : FlatEdit) (names : List (List ℕ)) (r : Bool) → names ≡ path_of edit
     → r ≡ list_any (writes names) before → MatchBool (not r) (IsNew before (command.User client edit)) (¬ (IsNew before (command.User client edit)))
 new_told before client edit names true is told = λ new. let never : true ≡ false = told ∙ ap (λ l. list_any (writes l) before) is ∙ new in cc
 new_told before client edit names false is told = sym (ap (λ l. list_any (writes l) before) is) ∙ sym told

@@ -7,7 +7,7 @@ use Rattle.std.proofs.lemmas.List.Sums.{AllPass-from_list_all}
 use Rattle.nuc_io.specs.Reading.{Took}
 use Rattle.nuc_io.specs.Line.{IsOneLine}
 use Rattle.nuc_hash.specs.declared.filling.Filling.TheVariants as filling
-use Rattle.nuc_folder.specs.declared.user.UserEdit.TheVariants as edit
+use Rattle.nuc_folder.specs.declared.flat_edit.FlatEdit.TheVariants as edit
 use Rattle.nuc_server.specs.declared.web_edit.WebEdit.{WebEdit}
 use Rattle.nuc_server.specs.declared.web_edit.WebEdit.TheVariants as web
 use Rattle.nuc_script.specs.Text.{path_text, written_text, switch_text, web_text, command_line, command_text, script_text}

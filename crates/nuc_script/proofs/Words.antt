@@ -10,8 +10,8 @@ use Rattle.nuc_base.specs.declared.name_fault.NameFault.{NameFault}
 use Rattle.nuc_base.specs.declared.name_fault.NameFault.TheVariants as fault
 use Rattle.nuc_base.specs.declared.path.Path.{Path}
 use Rattle.nuc_hash.specs.declared.filling.Filling.TheVariants as filling
-use Rattle.nuc_folder.specs.declared.user.UserEdit.{UserEdit}
-use Rattle.nuc_folder.specs.declared.user.UserEdit.TheVariants as edit
+use Rattle.nuc_folder.specs.declared.flat_edit.FlatEdit.{FlatEdit}
+use Rattle.nuc_folder.specs.declared.flat_edit.FlatEdit.TheVariants as edit
 use Rattle.nuc_server.specs.declared.web_edit.WebEdit.{WebEdit}
 use Rattle.nuc_script.specs.Text.{written_text, web_text, command_line}
 use Rattle.nuc_script.specs.Grammar.{IsPlain, IsPlainPath, IsWebBuilt, IsBuilt, IsCommand}
@@ -112,7 +112,7 @@ means_sync line same = (record { built = refl; short = omega (arith, ap length (
 pub means_pull : (line : List ℕ) → line ≡ codes "pull 1" → Means line (Some (command.Pull 1))
 means_pull line same = (record { built = refl; short = omega (arith, ap length (pull_line 1 refl)) }, same ∙ sym (pull_line 1 refl))
 
-pub means_user : (line text : List ℕ) (edit : UserEdit) → length line ≤ 4096 → line ≡ codes "write 1 " ++ text → UserMeans text (Some edit)
+pub means_user : (line text : List ℕ) (edit : FlatEdit) → length line ≤ 4096 → line ≡ codes "write 1 " ++ text → UserMeans text (Some edit)
     → Means line (Some (command.User 1 edit))
 means_user line text (edit.Write path (filling.Given bytes)) short cut (named, plain, same) =
     let shown : line ≡ command_line (command.User 1 (edit.Write path (filling.Given bytes))) =

@@ -4,8 +4,8 @@ use Rattle.std.specs.List.{list_any, AllByRecursion}
 use Rattle.nuc_base.specs.Names.{IsName}
 use Rattle.nuc_base.specs.SamePlace.{is_same_name}
 use Rattle.nuc_hash.specs.declared.filling.Filling.TheVariants as filling
-use Rattle.nuc_folder.specs.declared.user.UserEdit.{UserEdit}
-use Rattle.nuc_folder.specs.declared.user.UserEdit.TheVariants as edit
+use Rattle.nuc_folder.specs.declared.flat_edit.FlatEdit.{FlatEdit}
+use Rattle.nuc_folder.specs.declared.flat_edit.FlatEdit.TheVariants as edit
 use Rattle.nuc_server.specs.declared.web_edit.WebEdit.{WebEdit}
 use Rattle.nuc_server.specs.declared.web_edit.WebEdit.TheVariants as web
 use Rattle.nuc_script.specs.Text.{command_line}
@@ -61,7 +61,7 @@ is_same_path (a ∷ []) (b ∷ []) = is_same_name a b
 is_same_path (a ∷ []) (b ∷ next ∷ names) = false
 is_same_path (a ∷ next ∷ more) (b ∷ names) = false
 
-abbrev pub path_of : UserEdit → List (List ℕ)
+abbrev pub path_of : FlatEdit → List (List ℕ)
 path_of (edit.Write path filling) = path.names
 
 -- by this command the user writes the file at this path

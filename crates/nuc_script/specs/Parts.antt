@@ -2,8 +2,8 @@
 use Rattle.std.specs.Prelude.{◌≡◌, ◌≢◌, ℕ, List, [], ◌∷◌, ◌++◌, Option, Some, None}
 use Rattle.nuc_base.specs.declared.path.Path.{Path}
 use Rattle.nuc_hash.specs.declared.filling.Filling.TheVariants as filling
-use Rattle.nuc_folder.specs.declared.user.UserEdit.{UserEdit}
-use Rattle.nuc_folder.specs.declared.user.UserEdit.TheVariants as edit
+use Rattle.nuc_folder.specs.declared.flat_edit.FlatEdit.{FlatEdit}
+use Rattle.nuc_folder.specs.declared.flat_edit.FlatEdit.TheVariants as edit
 use Rattle.nuc_server.specs.declared.web_edit.WebEdit.{WebEdit}
 use Rattle.nuc_script.specs.Text.{path_text, written_text, web_text}
 use Rattle.nuc_script.specs.Grammar.{IsPlain, IsPlainByte, IsPlainPath, IsPlainWay, IsWebBuilt}
@@ -32,7 +32,7 @@ WrittenMeans text None = (names : List (List ℕ)) (bytes : List ℕ) → IsPlai
 WrittenMeans text (Some (path, bytes)) = IsPlainWay path.names × IsPlain bytes × (text ≡ written_text path.names bytes)
 
 -- the user's edit that this gives, if it gives one: a path of one name, and bytes
-abbrev pub UserMeans : List ℕ → Option UserEdit → Type 0
+abbrev pub UserMeans : List ℕ → Option FlatEdit → Type 0
 UserMeans text None = (names : List (List ℕ)) (bytes : List ℕ) → IsPlainPath names → IsPlain bytes → text ≢ written_text names bytes
 UserMeans text (Some (edit.Write path (filling.Given bytes))) = IsPlainPath path.names × IsPlain bytes × (text ≡ written_text path.names bytes)
 

@@ -1,7 +1,7 @@
 -- The text of a script: a line for each command.
 use Rattle.std.specs.Prelude.{ℕ, Bool, true, false, List, [], ◌∷◌, ◌++◌, codes, decimal}
 use Rattle.nuc_hash.specs.declared.filling.Filling.TheVariants as filling
-use Rattle.nuc_folder.specs.declared.user.UserEdit.TheVariants as edit
+use Rattle.nuc_folder.specs.declared.flat_edit.FlatEdit.TheVariants as edit
 use Rattle.nuc_server.specs.declared.web_edit.WebEdit.{WebEdit}
 use Rattle.nuc_server.specs.declared.web_edit.WebEdit.TheVariants as web
 use Rattle.nuc_script.specs.declared.command.Command.{Command}

@@ -1,11 +1,11 @@
-use nuc_folder::UserEdit;
+use nuc_folder::FlatEdit;
 use nuc_server::WebEdit;
 
 /// One line of a script.
 #[derive(Debug, Drop)]
 pub enum Command {
     /// The user of this client edits its folder.
-    User { client: u32, edit: UserEdit },
+    User { client: u32, edit: FlatEdit },
     /// The server is edited on the web.
     Web(WebEdit),
     /// This client takes a page of the server's journal over into Remote.

@@ -4,7 +4,7 @@ ghost use Rattle.nuc_script.specs.Grammar.{IsNew, MayFollow, is_same_path, is_we
 
 use crate::Command;
 use nuc_base::Path;
-use nuc_folder::UserEdit;
+use nuc_folder::FlatEdit;
 
 /// The most commands of a script.
 const MOST_COMMANDS: usize = 1000;
@@ -58,11 +58,11 @@ fn writes(command: &Command, path: &Path) -> bool
     }
 }
 
-fn path_of(edit: &UserEdit) -> &Path
+fn path_of(edit: &FlatEdit) -> &Path
     ensures { result.now.names ≡ path_of edit.now }
 {
     match edit {
-        UserEdit::Write(path, _) => path,
+        FlatEdit::Write(path, _) => path,
     }
 }
 

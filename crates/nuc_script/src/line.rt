@@ -6,7 +6,7 @@ use crate::Command;
 use crate::web::parse_web;
 use crate::word::{behind, is_text};
 use crate::written::parse_written;
-use nuc_folder::UserEdit;
+use nuc_folder::FlatEdit;
 use nuc_hash::Filling;
 use std::alloc::{AllocError, Global};
 
@@ -37,7 +37,7 @@ pub fn parse_line(alloc: Global, line: &[u8]) -> Result<Option<Command>, AllocEr
 }
 
 /// Reads `/NAME =BYTES`.
-fn parse_user(alloc: Global, text: &[u8]) -> Result<Option<UserEdit>, AllocError>
+fn parse_user(alloc: Global, text: &[u8]) -> Result<Option<FlatEdit>, AllocError>
     ensures { IfOk result (λ found. UserMeans text.now found) }
 {
     let Some((path, bytes)) = parse_written(alloc, text)? else {
@@ -46,5 +46,5 @@ fn parse_user(alloc: Global, text: &[u8]) -> Result<Option<UserEdit>, AllocError
     if path.names.len() != 1 {
         return Ok(None);
     }
-    Ok(Some(UserEdit::Write(path, Filling::Given(bytes))))
+    Ok(Some(FlatEdit::Write(path, Filling::Given(bytes))))
 }

@@ -1,5 +1,5 @@
 use super::*;
-use nuc_folder::UserEdit;
+use nuc_folder::FlatEdit;
 use nuc_io::MemSource;
 use std::alloc::{AllocError, Global};
 use std::test::Fail;
@@ -113,7 +113,7 @@ fn a_write_has_its_name_and_bytes(rt: HostRuntime) -> Result<(), Fail> {
             Some(
                 Command::User {
                     client,
-                    edit: UserEdit::Write(path, filling),
+                    edit: FlatEdit::Write(path, filling),
                 },
             ) => {
                 let name = match path.names.get(0) {

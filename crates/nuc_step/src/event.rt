@@ -1,11 +1,11 @@
-use nuc_folder::UserEdit;
+use nuc_folder::FlatEdit;
 use nuc_server::WebEdit;
 
 /// One thing that happens, and is answered in one step.
 #[derive(Debug, Drop)]
 pub enum Event {
     /// The user edits the client's folder.
-    User { client: u32, edit: UserEdit },
+    User { client: u32, edit: FlatEdit },
     /// The server is edited on the web.
     Web { edit: WebEdit },
     /// The client lists its folder, and holds the listing.

@@ -1,13 +1,13 @@
 use crate::Reason;
 use nuc_class::Op;
-use nuc_folder::{Item, UserReply};
+use nuc_folder::{Item, FlatReply};
 use nuc_server::WebReply;
 use sqlite_items::Items;
 
 /// How an event is answered.
 #[derive(Debug, Drop)]
 pub enum Reply {
-    User(UserReply),
+    User(FlatReply),
     Web(WebReply),
     /// The listing, and how often Local had changed when it began.
     Listed { changes: u64, items: Items<Item> },

@@ -2,7 +2,7 @@ use super::{a_txt, items};
 use crate::log_line;
 use nuc_base::{Name, NodeId, Path};
 use nuc_class::Op;
-use nuc_folder::{UserEdit, UserReply};
+use nuc_folder::{FlatEdit, FlatReply};
 use nuc_hash::Filling;
 use nuc_step::{
     DoneReply, Event, LogEntry, MarkReply, PlanReply, Reply, ScanReply, StartReply, TakeReply,
@@ -32,7 +32,7 @@ fn write(alloc: Global, name: &[u8], bytes: &[u8]) -> Result<Event, Fail> {
     let mut names = Items::new(alloc);
     names.push(Name::new(alloc, name)?)?;
     let filling = Filling::Given(Items::from_slice(alloc, bytes)?);
-    let edit = UserEdit::Write(Path { names }, filling);
+    let edit = FlatEdit::Write(Path { names }, filling);
     Ok(Event::User { client: 1, edit })
 }
 
@@ -49,7 +49,7 @@ fn a_write_of_the_user_has_its_line(rt: HostRuntime) -> Result<(), Fail> {
     let alloc = rt.alloc();
     let event = write(alloc, b"a.txt", b"hello")?;
     let want = "user 1 write /a.txt =hello ok\n";
-    prints(&rt, alloc, event, Reply::User(UserReply::Ok), want)
+    prints(&rt, alloc, event, Reply::User(FlatReply::Ok), want)
 }
 
 #[test]
@@ -57,7 +57,7 @@ fn bytes_that_are_not_plain_are_escaped(rt: HostRuntime) -> Result<(), Fail> {
     let alloc = rt.alloc();
     let event = write(alloc, b"\xC3\xA9", b"%zzA%")?;
     let want = "user 1 write /%C3%A9 =%25zzA%25 noparent\n";
-    prints(&rt, alloc, event, Reply::User(UserReply::NoParent), want)
+    prints(&rt, alloc, event, Reply::User(FlatReply::NoParent), want)
 }
 
 #[test]

@@ -1,10 +1,10 @@
 use Rattle.std.proofs.Common.{◌≡◌, None, position, sym, subst, arith}
 use Rattle.std.proofs.lemmas.Grind.{common_steps}
-use Rattle.nuc_folder.specs.Folder.{FolderData}
-use Rattle.nuc_folder.specs.Formed.{IsFormed}
-use Rattle.nuc_folder.specs.Write.{has_name, written_at}
+use Rattle.nuc_folder.specs.FlatFolder.{FolderData}
+use Rattle.nuc_folder.specs.FlatFormed.{IsFormed}
+use Rattle.nuc_folder.specs.FlatWrite.{has_name, written_at}
 use Rattle.nuc_folder.proofs.Formed.{formed-new}
-use Rattle.nuc_folder.proofs.mem_folder.MemFolder.make.Goals as goal
+use Rattle.nuc_folder.proofs.flat_folder.FlatFolder.make.Goals as goal
 
 pub invariant_of-self-2 : goal.invariant_of-self-2
 invariant_of-self-2 c =

@@ -10,17 +10,17 @@ use std::marker::Model;
 
 /// A file in memory, with its content beside its bytes, so that a listing hashes nothing anew.
 #[derive(Debug, Drop)]
-pub struct MemFile {
+pub struct FlatFile {
     key: Key,
     name: Name,
     bytes: Items<u8>,
     content: Content,
 }
 
-impl Model for MemFile {
+impl Model for FlatFile {
     ghost use Rattle.std.specs.Prelude.{◌≡◌};
     ghost use Rattle.nuc_hash.specs.Content.{content_of};
-    ghost use Rattle.nuc_folder.specs.Folder.{FileData};
+    ghost use Rattle.nuc_folder.specs.FlatFolder.{FileData};
 
     ghost Value = { FileData };
 
@@ -30,14 +30,14 @@ impl Model for MemFile {
 }
 
 ghost use Rattle.nuc_base.specs.Names.{IsName};
-ghost use Rattle.nuc_folder.specs.Listing.{has_key, item_of};
-ghost use Rattle.nuc_folder.specs.Write.{comes_after, has_name};
+ghost use Rattle.nuc_folder.specs.FlatListing.{has_key, item_of};
+ghost use Rattle.nuc_folder.specs.FlatWrite.{comes_after, has_name};
 
-impl MemFile {
-    pub fn new(alloc: Global, key: Key, name: &Name, bytes: &[u8]) -> Result<MemFile, AllocError>
+impl FlatFile {
+    pub fn new(alloc: Global, key: Key, name: &Name, bytes: &[u8]) -> Result<FlatFile, AllocError>
         ensures { IfOk result (λ file. file ≡ record { key = key.0; name = name.now; bytes = bytes.now }) }
     {
-        Ok(MemFile {
+        Ok(FlatFile {
             key,
             name: name.copy(alloc)?,
             bytes: Items::from_slice(alloc, bytes)?,
@@ -91,6 +91,7 @@ impl MemFile {
             parent: Key(0),
             content: Some(self.content.copy(alloc)?),
             name: Items::from_slice(alloc, self.name.bytes())?,
+            bit: false,
         })
     }
 }

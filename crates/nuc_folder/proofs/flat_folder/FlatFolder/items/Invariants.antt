@@ -1,7 +1,7 @@
 use Rattle.std.proofs.Common.{◌≡◌, All, map, take}
 use Rattle.nuc_base.specs.Names.{IsName}
-use Rattle.nuc_folder.specs.Listing.{item_of}
-use Rattle.nuc_folder.proofs.mem_folder.MemFolder.items.Given as goal
+use Rattle.nuc_folder.specs.FlatListing.{item_of}
+use Rattle.nuc_folder.proofs.flat_folder.FlatFolder.items.Given as goal
 
 abbrev pub invariant-loop-file : goal.invariant-loop-file
 invariant-loop-file l = record {

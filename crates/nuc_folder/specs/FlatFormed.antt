@@ -3,7 +3,7 @@ use Rattle.std.specs.Cmp.Lexicographic.{slice_cmp}
 use Rattle.std.specs.Ordering.{nat_cmp}
 use Rattle.std.specs.declared.cmp.Ordering.TheVariants.{Less}
 use Rattle.nuc_base.specs.SamePlace.{SameName}
-use Rattle.nuc_folder.specs.Folder.{FolderData}
+use Rattle.nuc_folder.specs.FlatFolder.{FolderData}
 
 -- what every folder keeps: its names ascend by their bytes, no two of them are the same, and each file has a key of
 -- its own that was given before the next

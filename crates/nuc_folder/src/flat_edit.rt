@@ -6,19 +6,19 @@ use std::alloc::{AllocError, Global};
 
 /// What a user does in a folder.
 #[derive(Debug, Drop)]
-pub enum UserEdit {
+pub enum FlatEdit {
     /// Makes the file, or replaces its bytes.
     Write(Path, Filling),
 }
 
-impl UserEdit {
-    pub fn copy(&self, alloc: Global) -> Result<UserEdit, AllocError>
+impl FlatEdit {
+    pub fn copy(&self, alloc: Global) -> Result<FlatEdit, AllocError>
         ensures { IfOk result (λ edit. edit ≡ self.now) }
     {
         match self {
-            UserEdit::Write(path, filling) => {
+            FlatEdit::Write(path, filling) => {
                 let path = path.copy(alloc)?;
-                Ok(UserEdit::Write(path, filling.copy(alloc)?))
+                Ok(FlatEdit::Write(path, filling.copy(alloc)?))
             }
         }
     }
@@ -26,7 +26,7 @@ impl UserEdit {
 
 /// How a folder answers a user's edit.
 #[derive(Clone, Copy, Debug, PartialEq, Eq)]
-pub enum UserReply {
+pub enum FlatReply {
     Ok,
     /// A name before the last isn't that of a folder.
     NoParent,

@@ -1,7 +1,7 @@
 use Rattle.std.proofs.Common.{◌∙◌, ap}
 use Rattle.std.proofs.Math.ListN.{set}
 use Rattle.nuc_folder.proofs.Refilled.{set-refilled}
-use Rattle.nuc_folder.proofs.mem_folder.refill_at.Goals as goal
+use Rattle.nuc_folder.proofs.flat_folder.refill_at.Goals as goal
 
 pub returns-clause-ok : goal.returns-clause-ok
 returns-clause-ok c =

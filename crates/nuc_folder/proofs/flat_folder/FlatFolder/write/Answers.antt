@@ -1,11 +1,11 @@
 use Rattle.std.proofs.Common.{◌≡◌, List, Some, None, position, sym, subst, ◌∙◌, ap}
 use Rattle.std.proofs.lemmas.List.{with_items_is}
-use Rattle.nuc_folder.specs.Folder.{FileData, FolderData}
-use Rattle.nuc_folder.specs.Formed.{IsFormed}
-use Rattle.nuc_folder.specs.Write.{has_name, refilled, written}
+use Rattle.nuc_folder.specs.FlatFolder.{FileData, FolderData}
+use Rattle.nuc_folder.specs.FlatFormed.{IsFormed}
+use Rattle.nuc_folder.specs.FlatWrite.{has_name, refilled, written}
 use Rattle.nuc_folder.proofs.Formed.{formed-refill}
 use Rattle.nuc_folder.proofs.Written.{written-there, written-new, OnOk-then}
-use Rattle.nuc_folder.proofs.mem_folder.MemFolder.write.Goals as goal
+use Rattle.nuc_folder.proofs.flat_folder.FlatFolder.write.Goals as goal
 
 pub returns-in-Some-clause-ok : goal.returns-in-Some-clause-ok
 returns-in-Some-clause-ok c =

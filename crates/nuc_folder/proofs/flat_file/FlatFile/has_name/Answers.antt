@@ -1,8 +1,8 @@
 use Rattle.std.proofs.Common.{◌≡◌, subst}
-use Rattle.nuc_folder.specs.Folder.{FileData}
-use Rattle.nuc_folder.specs.Write.{has_name}
+use Rattle.nuc_folder.specs.FlatFolder.{FileData}
+use Rattle.nuc_folder.specs.FlatWrite.{has_name}
 use Rattle.nuc_folder.proofs.NamesTold.{is_same_name-from_told}
-use Rattle.nuc_folder.proofs.mem_file.MemFile.has_name.Goals as goal
+use Rattle.nuc_folder.proofs.flat_file.FlatFile.has_name.Goals as goal
 
 pub returns : goal.returns
 returns c =

@@ -2,8 +2,8 @@ ghost use Rattle.std.specs.Prelude.{◌≡◌, ◌<◌, ◌≤◌, [], All, leng
 ghost use Rattle.std.specs.List.{find};
 ghost use Rattle.std.specs.Option.{option_copied};
 
-use crate::mem_file::MemFile;
-use crate::{Item, Key, ReadBack, UserEdit, UserReply};
+use crate::flat_file::FlatFile;
+use crate::{Item, Key, ReadBack, FlatEdit, FlatReply};
 use nuc_base::Name;
 use sqlite_items::Items;
 use std::alloc::{AllocError, Global};
@@ -11,14 +11,14 @@ use std::marker::Model;
 
 /// A folder in memory, edited by a script. Its files stand in the order of their names' bytes.
 #[derive(Debug, Drop)]
-pub struct MemFolder {
-    files: Vec<MemFile>,
+pub struct FlatFolder {
+    files: Vec<FlatFile>,
     next_key: u64,
 }
 
-impl Model for MemFolder {
-    ghost use Rattle.nuc_folder.specs.Folder.{FolderData};
-    ghost use Rattle.nuc_folder.specs.Formed.{IsFormed};
+impl Model for FlatFolder {
+    ghost use Rattle.nuc_folder.specs.FlatFolder.{FolderData};
+    ghost use Rattle.nuc_folder.specs.FlatFormed.{IsFormed};
 
     ghost Value = { FolderData };
 
@@ -28,32 +28,32 @@ impl Model for MemFolder {
 }
 
 ghost use Rattle.nuc_base.specs.Names.{IsName};
-ghost use Rattle.nuc_folder.specs.Formed.{IsFormed};
-ghost use Rattle.nuc_folder.specs.Listing.{has_key, item_of, Reads};
-ghost use Rattle.nuc_folder.specs.Write.{Answers, comes_after, has_name, place_of, refilled, written, written_at};
+ghost use Rattle.nuc_folder.specs.FlatFormed.{IsFormed};
+ghost use Rattle.nuc_folder.specs.FlatListing.{has_key, item_of, Reads};
+ghost use Rattle.nuc_folder.specs.FlatWrite.{Answers, comes_after, has_name, place_of, refilled, written, written_at};
 
-impl MemFolder {
+impl FlatFolder {
     /// An empty folder, in no memory.
-    pub fn new(alloc: Global) -> MemFolder
+    pub fn new(alloc: Global) -> FlatFolder
         ensures { result ≡ record { files = []; next_key = 1 } }
     {
-        MemFolder {
+        FlatFolder {
             files: Vec::new(alloc),
             next_key: 1,
         }
     }
 
     /// Makes a user's edit. Memory lacks too where no key would be left after the file's.
-    pub fn user(&mut self, alloc: Global, edit: &UserEdit) -> UserReply
+    pub fn user(&mut self, alloc: Global, edit: &FlatEdit) -> FlatReply
         ensures { Answers edit.now self.old result self.new }
     {
         match edit {
-            UserEdit::Write(path, filling) => match path.names.as_slice() {
+            FlatEdit::Write(path, filling) => match path.names.as_slice() {
                 [name] => match self.write(alloc, name, filling.bytes()) {
-                    Ok(()) => UserReply::Ok,
-                    Err(_) => UserReply::Memory,
+                    Ok(()) => FlatReply::Ok,
+                    Err(_) => FlatReply::Memory,
                 },
-                _ => UserReply::NoParent,
+                _ => FlatReply::NoParent,
             },
         }
     }
@@ -74,7 +74,7 @@ impl MemFolder {
         ensures err { OnErr result (self.new ≡ self.old) }
     {
         let next_key = self.next_key.checked_add(1).ok_or(AllocError)?;
-        let file = MemFile::new(alloc, Key(self.next_key), name, bytes)?;
+        let file = FlatFile::new(alloc, Key(self.next_key), name, bytes)?;
         let index = place_of(&self.files, name);
         self.files.insert(index, file)?;
         self.next_key = next_key;
@@ -109,35 +109,35 @@ impl MemFolder {
 }
 
 /// Where the file of this name stands.
-fn position_of(files: &[MemFile], name: &Name) -> Option<usize>
+fn position_of(files: &[FlatFile], name: &Name) -> Option<usize>
     ensures { result ≡ position (has_name name.now) files.now }
 {
     files.iter().position(|file| file.has_name(name))
 }
 
 /// Where a new file of this name goes.
-fn place_of(files: &[MemFile], name: &Name) -> usize
+fn place_of(files: &[FlatFile], name: &Name) -> usize
     ensures value { result ≡ place_of name.now files.now }
     ensures within { result ≤ length files.now }
 {
     first_after(files, name).unwrap_or(files.len())
 }
 
-fn first_after(files: &[MemFile], name: &Name) -> Option<usize>
+fn first_after(files: &[FlatFile], name: &Name) -> Option<usize>
     ensures value { result ≡ position (comes_after name.now) files.now }
     ensures within { IfSome result (λ index. index < length files.now) }
 {
     files.iter().position(|file| file.comes_after(name))
 }
 
-fn file_of(files: &[MemFile], key: Key) -> Option<&MemFile>
+fn file_of(files: &[FlatFile], key: Key) -> Option<&FlatFile>
     ensures { option_copied result ≡ find (has_key key.0) files.now }
 {
     files.iter().find(|file| file.has_key(key))
 }
 
 fn refill_at(
-    files: &mut [MemFile],
+    files: &mut [FlatFile],
     index: usize,
     alloc: Global,
     bytes: &[u8],

@@ -3,11 +3,11 @@ use Rattle.std.specs.Cmp.Lexicographic.{slice_cmp}
 use Rattle.std.specs.Ordering.{nat_cmp, is_lt}
 use Rattle.nuc_base.specs.SamePlace.{is_same_name}
 use Rattle.nuc_hash.specs.Filling.{filling_bytes}
-use Rattle.nuc_folder.specs.Folder.{FileData, FolderData}
-use Rattle.nuc_folder.specs.declared.user.UserEdit.{UserEdit}
-use Rattle.nuc_folder.specs.declared.user.UserEdit.TheVariants as edit
-use Rattle.nuc_folder.specs.declared.user.UserReply.{UserReply}
-use Rattle.nuc_folder.specs.declared.user.UserReply.TheVariants as reply
+use Rattle.nuc_folder.specs.FlatFolder.{FileData, FolderData}
+use Rattle.nuc_folder.specs.declared.flat_edit.FlatEdit.{FlatEdit}
+use Rattle.nuc_folder.specs.declared.flat_edit.FlatEdit.TheVariants as edit
+use Rattle.nuc_folder.specs.declared.flat_edit.FlatReply.{FlatReply}
+use Rattle.nuc_folder.specs.declared.flat_edit.FlatReply.TheVariants as reply
 
 -- the file has this name
 abbrev pub has_name : List ℕ → FileData → Bool
@@ -44,16 +44,16 @@ unfoldable pub written : List ℕ → List ℕ → FolderData → FolderData
 written name bytes folder = written_at (position (has_name name) folder.files) name bytes folder
 
 -- the answer and the folder after it, where every file stands in the folder itself
-abbrev pub written_to : List (List ℕ) → List ℕ → FolderData → UserReply × FolderData
+abbrev pub written_to : List (List ℕ) → List ℕ → FolderData → FlatReply × FolderData
 written_to (name ∷ []) bytes folder = (reply.Ok, written name bytes folder)
 written_to names bytes folder = (reply.NoParent, folder)
 
 -- the answer to an edit and the folder after it, where memory suffices
-abbrev pub edited : UserEdit → FolderData → UserReply × FolderData
+abbrev pub edited : FlatEdit → FolderData → FlatReply × FolderData
 edited (edit.Write path filling) folder = written_to path.names (filling_bytes filling) folder
 
 -- the answer to an edit and the new folder are those; where memory lacks the folder is as before
-abbrev pub Answers : UserEdit → FolderData → UserReply → FolderData → Type 0
+abbrev pub Answers : FlatEdit → FolderData → FlatReply → FolderData → Type 0
 Answers edit old reply.Memory new = new ≡ old
 Answers edit old reply.Ok new = edited edit old ≡ (reply.Ok, new)
 Answers edit old reply.NoParent new = edited edit old ≡ (reply.NoParent, new)
