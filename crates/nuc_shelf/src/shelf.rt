@@ -120,8 +120,27 @@ impl Shelf {
         ensures settled { self.new.settled ≡ self.old.settled }
         ensures shelf { IsShelf self.new.now }
     {
-        self.files.reserve(1)?;
+        self.reserve(1)?;
         let file = ShelfFile::of(alloc, bytes)?;
+        self.put_file(key, place, file, bit)
+    }
+
+    /// Adds a file under a key. Where a file has that key already, place, bit and bytes take the place of its own.
+    pub fn put_file(
+        &mut self,
+        key: u64,
+        place: Place,
+        file: ShelfFile,
+        bit: bool,
+    ) -> Result<(), AllocError>
+        requires key { 0 < key }
+        requires legal { LegalPut self.old.now.tree key (file_at place bit) }
+        ensures ok { OnOk result (self.new.now ≡ with_file self.old.now key place bit file) }
+        ensures err { OnErr result (self.new.now ≡ self.old.now) }
+        ensures settled { self.new.settled ≡ self.old.settled }
+        ensures shelf { IsShelf self.new.now }
+    {
+        self.files.reserve(1)?;
         let node = Node {
             place,
             kind: Kind::File,
@@ -141,8 +160,20 @@ impl Shelf {
         ensures settled { self.new.settled ≡ self.old.settled }
         ensures shelf { IsShelf self.new.now }
     {
-        self.files.reserve(1)?;
+        self.reserve(1)?;
         let file = ShelfFile::of(alloc, bytes)?;
+        self.fill(key, file)
+    }
+
+    /// Gives a file the bytes of another in place of its own.
+    pub fn fill(&mut self, key: u64, file: ShelfFile) -> Result<(), AllocError>
+        requires { IsFile self.old.now.tree key }
+        ensures ok { OnOk result (self.new.now ≡ refilled self.old.now key file) }
+        ensures err { OnErr result (self.new.now ≡ self.old.now) }
+        ensures settled { self.new.settled ≡ self.old.settled }
+        ensures shelf { IsShelf self.new.now }
+    {
+        self.files.reserve(1)?;
         self.files.set(key, Some(file));
         Ok(())
     }
