@@ -1,4 +1,3 @@
-mod Following
 mod Fresh
 pub mod Judging
 mod Keeping

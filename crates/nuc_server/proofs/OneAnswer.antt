@@ -20,7 +20,7 @@ use Rattle.nuc_edits.specs.Edits.{Recorded}
 use Rattle.nuc_hash.specs.Filling.{filling_bytes}
 use Rattle.nuc_journal.specs.Entries.{tree_of}
 use Rattle.nuc_journal.specs.declared.entry.Entry.{Entry}
-use Rattle.nuc_server.specs.Paths.{ByHolder, ByPath, LeadsOn, LeadsTo, place_in}
+use Rattle.nuc_paths.specs.Paths.{ByHolder, ByPath, LeadsOn, LeadsTo, place_in}
 use Rattle.nuc_server.specs.Web.{AnswersAt, OneWebAnswer, path_of}
 use Rattle.nuc_server.specs.WebEdits.{CutAnswers, EndsFile, Enters, IsUnchanged, MkdirAnswers, PutAnswers, SetsBit, WebState, Writes, WritesNew, WritesOver}
 use Rattle.nuc_server.specs.declared.web_edit.WebEdit.{WebEdit}

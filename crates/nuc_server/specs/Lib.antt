@@ -1,5 +1,4 @@
 pub mod Judge
-pub mod Paths
 pub mod State
 pub mod Undo
 pub mod Versions

@@ -4,7 +4,7 @@ use Rattle.nuc_base.specs.Trees.{WellFormed}
 use Rattle.nuc_base.specs.declared.node.Place.{Place}
 use Rattle.nuc_hash.specs.Filling.{filling_bytes}
 use Rattle.nuc_journal.specs.Entries.{tree_of}
-use Rattle.nuc_server.specs.Paths.{ByPath}
+use Rattle.nuc_paths.specs.Paths.{ByPath}
 use Rattle.nuc_server.specs.WebEdits.{WebState, IsUnchanged, MkdirAnswers, WriteAnswers, MoveAnswers, RemoveAnswers, BitAnswers}
 use Rattle.nuc_server.specs.declared.web_edit.WebEdit.{WebEdit}
 use Rattle.nuc_server.specs.declared.web_edit.WebEdit.TheVariants as edit

@@ -19,7 +19,7 @@ use Rattle.nuc_hash.specs.declared.digest.Digest.{Digest}
 use Rattle.nuc_journal.specs.Entries.{tree_of}
 use Rattle.nuc_journal.specs.declared.entry.Entry.{Entry}
 use Rattle.nuc_server.specs.Judge.{next_entry}
-use Rattle.nuc_server.specs.Paths.{ByHolder, ByPath}
+use Rattle.nuc_paths.specs.Paths.{ByHolder, ByPath}
 use Rattle.nuc_server.specs.declared.web_edit.WebReply.{WebReply}
 use Rattle.nuc_server.specs.declared.web_edit.WebReply.TheVariants as reply
 

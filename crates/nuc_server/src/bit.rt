@@ -1,11 +1,11 @@
 ghost use Rattle.std.specs.Prelude.{◌≡◌, IfOk};
 ghost use Rattle.nuc_journal.specs.Journal.{IsJournal};
-ghost use Rattle.nuc_server.specs.Paths.{place_in};
+ghost use Rattle.nuc_paths.specs.Paths.{place_in};
 ghost use Rattle.nuc_server.specs.WebEdits.{BitAnswers, IsNextId};
 
-use crate::path::holder;
 use crate::{LoopServer, WebReply};
 use nuc_base::{Counters, Kind, Name, Node, NodeId};
+use nuc_paths::holder;
 use std::alloc::{AllocError, Global};
 
 /// Says whether the file of this name below a folder may be executed.

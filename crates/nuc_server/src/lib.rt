@@ -7,7 +7,6 @@ mod judge;
 mod keep;
 mod laws;
 mod mkdir;
-mod path;
 mod relocate;
 mod remove;
 mod server;

@@ -2,12 +2,12 @@ ghost use Rattle.std.specs.Prelude.{◌≡◌, IfOk};
 ghost use Rattle.nuc_base.specs.Trees.{IsFolder};
 ghost use Rattle.nuc_journal.specs.Entries.{tree_of};
 ghost use Rattle.nuc_journal.specs.Journal.{IsJournal};
-ghost use Rattle.nuc_server.specs.Paths.{place_in};
+ghost use Rattle.nuc_paths.specs.Paths.{place_in};
 ghost use Rattle.nuc_server.specs.WebEdits.{IsNextId, MkdirAnswers, folder_at};
 
-use crate::path::holder;
 use crate::{LoopServer, WebReply};
 use nuc_base::{Counters, Kind, Name, Node, NodeId, Place, Ver};
+use nuc_paths::holder;
 use std::alloc::{AllocError, Global};
 
 /// Makes a folder of this name below a folder.

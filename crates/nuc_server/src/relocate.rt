@@ -3,12 +3,12 @@ ghost use Rattle.std.specs.FinMap.{get};
 ghost use Rattle.nuc_base.specs.Trees.{IsFolder};
 ghost use Rattle.nuc_journal.specs.Entries.{tree_of};
 ghost use Rattle.nuc_journal.specs.Journal.{IsJournal};
-ghost use Rattle.nuc_server.specs.Paths.{place_in};
+ghost use Rattle.nuc_paths.specs.Paths.{place_in};
 ghost use Rattle.nuc_server.specs.WebEdits.{IsMoved, IsNextId, MoveAnswers, PutAnswers};
 
-use crate::path::{follow, holder};
 use crate::{LoopServer, WebReply};
 use nuc_base::{Counters, Name, Node, NodeId, Path, Place, PutFault, TreeLike};
+use nuc_paths::{follow, holder};
 use std::alloc::{AllocError, Global};
 
 /// Moves what has this name below a folder to the place to which a path leads.

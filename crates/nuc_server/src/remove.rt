@@ -3,13 +3,13 @@ ghost use Rattle.nuc_base.specs.Legal.{LegalCut};
 ghost use Rattle.nuc_edits.specs.Edits.{IsNext};
 ghost use Rattle.nuc_journal.specs.Entries.{tree_of};
 ghost use Rattle.nuc_journal.specs.Journal.{IsJournal};
-ghost use Rattle.nuc_server.specs.Paths.{place_in};
+ghost use Rattle.nuc_paths.specs.Paths.{place_in};
 ghost use Rattle.nuc_server.specs.WebEdits.{Enters, IsNextId, RemoveAnswers, with_edit};
 
-use crate::path::holder;
 use crate::{LoopServer, WebReply};
 use nuc_base::{Counters, Kind, Name, NodeId, TreeLike, Ver};
 use nuc_edits::{EditKind, Edits};
+use nuc_paths::holder;
 use std::alloc::{AllocError, Global};
 
 /// Removes what has this name below a folder. The end of a file is recorded as an edit.

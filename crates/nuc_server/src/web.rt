@@ -3,13 +3,12 @@ ghost use Rattle.nuc_base.specs.Trees.{IsFolder};
 ghost use Rattle.nuc_edits.specs.Edits.{IsNext};
 ghost use Rattle.nuc_journal.specs.Entries.{tree_of};
 ghost use Rattle.nuc_journal.specs.Journal.{HasOldKind, IsJournal, IsLegalValue};
-ghost use Rattle.nuc_server.specs.Paths.{place_in};
+ghost use Rattle.nuc_paths.specs.Paths.{place_in};
 ghost use Rattle.nuc_server.specs.Web.{AnswersAt, WebAnswers, path_of};
 ghost use Rattle.nuc_server.specs.WebEdits.{EnterAnswers, IsNextId, WebState};
 
 use crate::bit::set_bit;
 use crate::mkdir::mkdir;
-use crate::path::follow;
 use crate::relocate::relocate;
 use crate::remove::remove;
 use crate::write::write;
@@ -17,6 +16,7 @@ use crate::{LoopServer, WebEdit, WebReply};
 use nuc_base::{Counters, Name, Node, NodeId, Path};
 use nuc_blocks::Store;
 use nuc_edits::Edits;
+use nuc_paths::follow;
 use std::alloc::Global;
 
 impl LoopServer {

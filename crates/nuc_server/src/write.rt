@@ -7,16 +7,16 @@ ghost use Rattle.nuc_edits.specs.Edits.{IsNext, both_same};
 ghost use Rattle.nuc_hash.specs.Content as hash;
 ghost use Rattle.nuc_journal.specs.Entries.{tree_of};
 ghost use Rattle.nuc_journal.specs.Journal.{HadKind, IsJournal};
-ghost use Rattle.nuc_server.specs.Paths.{place_in};
+ghost use Rattle.nuc_paths.specs.Paths.{place_in};
 ghost use Rattle.nuc_server.specs.WebEdits.{IsNextId, OnlyGained, WriteAnswers, Writes, WritesNew, WritesOver, WebState, file_at};
 
 use crate::keep::keep_blocks;
-use crate::path::holder;
 use crate::{LoopServer, WebReply};
 use nuc_base::{Counters, Kind, Name, Node, NodeId, Place, Ver};
 use nuc_blocks::Store;
 use nuc_edits::{EditKind, Edits};
 use nuc_hash::{Content, content_of};
+use nuc_paths::holder;
 use std::alloc::{AllocError, Global};
 
 /// Gives the file of this name below a folder these bytes, or makes it with them.

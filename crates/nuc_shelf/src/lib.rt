@@ -5,6 +5,8 @@
 mod file;
 mod files;
 mod shelf;
+#[cfg(test)]
+mod tests;
 
 pub use file::ShelfFile;
 pub use shelf::Shelf;

@@ -4,7 +4,7 @@ use Rattle.nuc_base.specs.Legal.{LegalPut}
 use Rattle.nuc_base.specs.Trees.{Nodes, IsVacant, WellFormed}
 use Rattle.nuc_base.specs.declared.node.Node.{Node}
 use Rattle.nuc_journal.specs.Entries.{tree_of}
-use Rattle.nuc_server.specs.Paths.{place_in}
+use Rattle.nuc_paths.specs.Paths.{place_in}
 use Rattle.nuc_server.specs.WebEdits.{folder_at}
 use Rattle.nuc_server.proofs.Fresh.{next_push, no_kind, nobody}
 use Rattle.nuc_server.proofs.Putting.{any_kind, legal_new}

@@ -2,7 +2,7 @@ use Rattle.std.proofs.Common.{sym, subst}
 use Rattle.nuc_base.specs.Trees.{Nodes, IsFolder}
 use Rattle.nuc_base.specs.declared.node.Node.{Node}
 use Rattle.nuc_journal.specs.Entries.{tree_of}
-use Rattle.nuc_server.proofs.Following.{leads_folder}
+use Rattle.nuc_paths.proofs.Following.{leads_folder}
 use Rattle.nuc_server.proofs.relocate.relocate.Goals as goal
 
 pub put_at-requires-clause-parent : goal.put_at-requires-clause-parent

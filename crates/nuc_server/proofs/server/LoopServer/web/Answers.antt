@@ -1,6 +1,6 @@
 use Rattle.std.proofs.Common.{subst}
 use Rattle.nuc_base.specs.Trees.{Nodes, IsFolder}
-use Rattle.nuc_server.proofs.Following.{leads_folder}
+use Rattle.nuc_paths.proofs.Following.{leads_folder}
 use Rattle.nuc_server.proofs.server.LoopServer.web.Goals as goal
 
 pub web_at-requires-clause-folder : goal.web_at-requires-clause-folder

@@ -1,7 +1,7 @@
 use Rattle.std.proofs.Common.{◌-◌, ℕ, List, MatchOption, take, length, drop, sym, subst}
-use Rattle.nuc_server.specs.Paths.{LeadsNowhereOn, LeadsOn, place_in}
-use Rattle.nuc_server.proofs.Following.{below_leads, first_and_rest}
-use Rattle.nuc_server.proofs.path.+follow_on.Goals as goal
+use Rattle.nuc_paths.specs.Paths.{LeadsNowhereOn, LeadsOn, place_in}
+use Rattle.nuc_paths.proofs.Following.{below_leads, first_and_rest}
+use Rattle.nuc_paths.proofs.path.+follow_on.Goals as goal
 
 pub returns-in-Some : goal.returns-in-Some
 returns-in-Some g k c =

@@ -4,7 +4,7 @@ use Rattle.std.proofs.Math.Seq.{take-length}
 use Rattle.nuc_base.specs.Trees.{Nodes, IsFolder, StandsAt, WellFormed}
 use Rattle.nuc_base.specs.declared.node.Place.{Place}
 use Rattle.nuc_base.proofs.Places.{one_holder}
-use Rattle.nuc_server.specs.Paths.{LeadsNowhereOn, LeadsOn, LeadsTo, place_in}
+use Rattle.nuc_paths.specs.Paths.{LeadsNowhereOn, LeadsOn, LeadsTo, place_in}
 
 -- a name leads where the next one leads from who has its place
 pub below_leads : {A : Type 0} (r : Option A) (at : A → Place) (m : Nodes) (x : ℕ) (name next : List ℕ) (names : List (List ℕ)) (y : ℕ) → WellFormed m → StandsAt m y (place_in x name)

@@ -2,12 +2,12 @@ ghost use Rattle.std.specs.Prelude.{◌≡◌, ◌≢◌, IfSome, IsSomeAnd, Mat
 ghost use Rattle.std.specs.FinMap.{get};
 ghost use Rattle.nuc_base.specs.SamePlace.{SamePlace};
 ghost use Rattle.nuc_base.specs.Trees.{IsFolder, IsVacant, WellFormed};
-ghost use Rattle.nuc_server.specs.Paths.{LeadsNowhere, LeadsNowhereOn, LeadsOn, LeadsTo, place_in};
+ghost use Rattle.nuc_paths.specs.Paths.{LeadsNowhere, LeadsNowhereOn, LeadsOn, LeadsTo, place_in};
 
 use nuc_base::{Kind, Name, Node, NodeId, TreeLike};
 
 /// The place to which names lead from the root: the folder, and the name below it.
-pub(crate) fn follow<'a, T: TreeLike>(tree: &T, names: &'a [Name]) -> Option<(NodeId, &'a Name)>
+pub fn follow<'a, T: TreeLike>(tree: &T, names: &'a [Name]) -> Option<(NodeId, &'a Name)>
     requires { WellFormed (T.nodes tree.now) }
     ensures { MatchOption result (LeadsNowhere (T.nodes tree.now) 0 names.now) (λ at. LeadsTo (T.nodes tree.now) 0 names.now (place_in at.0.0 at.1.now)) }
 {
@@ -54,7 +54,7 @@ fn has_kind(node: Option<&Node>, kind: Kind) -> bool
 }
 
 /// Who has the place of this name below a folder, and the node.
-pub(crate) fn holder<'a, T: TreeLike>(
+pub fn holder<'a, T: TreeLike>(
     tree: &'a T,
     parent: NodeId,
     name: &Name,
