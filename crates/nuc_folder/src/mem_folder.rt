@@ -1,7 +1,9 @@
-ghost use Rattle.std.specs.Prelude.{◌≡◌, ◌<◌, ◌+◌, [], ◌∷◌, ◌++◌, drop, IfOk, OnOk, OnErr};
+ghost use Rattle.std.specs.Prelude.{◌≡◌, ◌<◌, ◌≤◌, ◌+◌, [], ◌∷◌, ◌++◌, drop, IsTrue, Some, IfOk, OnOk, OnErr};
 ghost use Rattle.nuc_io.specs.Calls.{after_call, is_to_fail};
-ghost use Rattle.nuc_folder.specs.Memory.{IsKeyed, empty_state};
+ghost use Rattle.nuc_io.specs.Causes.{Rose};
+ghost use Rattle.nuc_folder.specs.Memory.{empty_state};
 ghost use Rattle.nuc_folder.specs.Pending.{oldest};
+ghost use Rattle.nuc_folder.specs.State.{IsTold};
 
 use crate::Noticed;
 use crate::notices::Notices;
@@ -98,6 +100,9 @@ impl MemFolder {
     pub(crate) fn fails(&mut self) -> bool
         ensures value { result ≡ is_to_fail self.old.calls }
         ensures after { self.new ≡ record self.old { calls = after_call self.old.calls (is_to_fail self.old.calls) } }
+        ensures later { self.old.calls.faults ≤ self.new.calls.faults }
+        ensures rose { IsTrue result → Rose self.old.calls.faults self.new.calls.faults }
+        ensures form { IsTold self.new.now.next (Some self.new.now.held) }
     {
         let fails = self.calls.begin();
         if fails {
