@@ -3,6 +3,7 @@ pub mod Formed
 pub mod Found
 pub mod Inserts
 pub mod Keyed
+pub mod ListedKeys
 pub mod NamesTold
 pub mod Refilled
 pub mod Unfolding

@@ -1,14 +1,17 @@
 ghost use Rattle.std.specs.Prelude.{◌≡◌, ◌<◌, ◌≤◌, ◌+◌, [], ◌∷◌, ◌++◌, drop, IsTrue, Some, IfOk, OnOk, OnErr};
 ghost use Rattle.nuc_io.specs.Calls.{after_call, is_to_fail};
 ghost use Rattle.nuc_io.specs.Causes.{Rose};
+ghost use Rattle.nuc_folder.specs.Listing.{IsListing};
 ghost use Rattle.nuc_folder.specs.Memory.{empty_state};
 ghost use Rattle.nuc_folder.specs.Pending.{oldest};
 ghost use Rattle.nuc_folder.specs.State.{IsTold};
 
-use crate::Noticed;
+use crate::listing::listing;
 use crate::notices::Notices;
+use crate::{Item, Noticed};
 use nuc_io::Calls;
 use nuc_shelf::Shelf;
+use sqlite_items::Items;
 use std::alloc::{AllocError, Global};
 use std::marker::Model;
 
@@ -66,6 +69,13 @@ impl MemFolder {
         ensures err { OnErr result (self.new ≡ self.old) }
     {
         self.calls.fail_at(k)
+    }
+
+    /// The folder's listing. This counts as no call of the trait, and nothing is less pending for it.
+    pub fn items(&self, alloc: Global) -> Result<Items<Item>, AllocError>
+        ensures { IfOk result (λ items. IsListing self.now.now.held items) }
+    {
+        listing(&self.shelf, alloc)
     }
 
     /// Takes the oldest change by the user that nobody was told since the last listing; none where nothing is left.
