@@ -1,6 +1,11 @@
+pub mod ByName
 pub mod Formed
+pub mod Found
 pub mod Inserts
 pub mod Keyed
+pub mod ListedKeys
 pub mod NamesTold
 pub mod Refilled
+pub mod Unfolding
+pub mod Walk
 pub mod Written

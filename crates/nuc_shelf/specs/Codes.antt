@@ -14,7 +14,8 @@ abbrev pub state_code : Coded ShelfState
 state_code = code_by (Nodes × Bytes) (coded× nodes_code bytes_code) (λ s. (s.tree, s.bytes)) (λ t. record { tree = t.0; bytes = t.1 }) (λ _. refl)
 
 abbrev pub states_code : Coded ShelfStates
-states_code = code_by (ShelfState × ShelfState) (coded× state_code state_code) (λ s. (s.now, s.settled)) (λ t. record { now = t.0; settled = t.1 }) (λ _. refl)
+states_code = code_by (ShelfState × (ShelfState × ℕ)) (coded× state_code (coded× state_code coded_ℕ))
+    (λ s. (s.now, (s.settled, s.spare))) (λ t. record { now = t.0; settled = t.1.0; spare = t.1.1 }) (λ _. refl)
 
 abbrev pub files_code : Coded FilesState
 files_code = code_by (Bytes × (Bytes × (ℕ × ℕ))) (coded× bytes_code (coded× bytes_code (coded× coded_ℕ coded_ℕ)))

@@ -1,11 +1,11 @@
 -- The bytes of files by key, and how changes of them are taken back.
-use Rattle.std.specs.Prelude.{ℕ, ◌+◌, ◌-◌, List, [], ◌∷◌, min, length, Option, None, Some}
+use Rattle.std.specs.Prelude.{ℕ, ◌-◌, ◌/◌, List, [], ◌∷◌, min, length, Option, None, Some}
 use Rattle.std.specs.FinMap.{from_entries, insert, remove}
 use Rattle.nuc_shelf.specs.Shelf.{Bytes}
 use Rattle.nuc_shelf.specs.declared.files.Undo.{Undo}
 
--- what there is now, what there was at the last settling, for how many changes there is room (more than none where there
--- is for one), and how many changes can be taken back
+-- what there is now, what there was at the last settling, for how many changes there is room, and how many changes can be
+-- taken back
 pub record FilesState : Type 0 where
   pub now : Bytes
   pub settled : Bytes
@@ -26,11 +26,12 @@ abbrev pub first_of : Bytes → List Undo → Bytes
 first_of m [] = m
 first_of m (u ∷ us) = led (first_of m us) u.key u.before
 
--- what a list of files shows: the entries, the changes that were noted, the places for more of these, and for entries
+-- what a list of files shows: the entries, the changes that were noted, and the places for more of these and for more
+-- entries. A change may take one of those, and another is kept for taking it back
 abbrev pub files_state : List (ℕ × List ℕ) → List Undo → ℕ → ℕ → FilesState
 files_state entries undos free spare = record {
   now = bytes_of entries;
   settled = first_of (bytes_of entries) undos;
-  room = min free (spare - (length undos + 1));
+  room = min free ((spare - length undos) / 2);
   changes = length undos;
 }

@@ -18,10 +18,11 @@ pub record ShelfState : Type 0 where
   pub tree : Nodes
   pub bytes : Bytes
 
--- what a shelf holds now, and what it held when it was last settled
+-- what a shelf holds now, what it held when it was last settled, and for how many changes there is room
 pub record ShelfStates : Type 0 where
   pub now : ShelfState
   pub settled : ShelfState
+  pub spare : ℕ
 
 -- a file stands at x
 abbrev pub IsFile : Nodes → ℕ → Type 0

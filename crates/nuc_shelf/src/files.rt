@@ -1,4 +1,4 @@
-ghost use Rattle.std.specs.Prelude.{◌≡◌, ◌+◌, ◌<◌, ◌≤◌, MatchBool, OnOk};
+ghost use Rattle.std.specs.Prelude.{◌≡◌, ◌+◌, ◌<◌, ◌≤◌, MatchBool, OnOk, OnErr};
 ghost use Rattle.std.specs.FinMap as map;
 ghost use Rattle.std.specs.Option.{option_copied};
 ghost use Rattle.indexmap.specs.IndexMap.{spare};
@@ -58,15 +58,17 @@ impl Files {
         self.files.get(&key)
     }
 
-    /// Makes room for one change, and for taking it back.
-    pub(crate) fn reserve(&mut self) -> Result<(), AllocError>
-        ensures ok { OnOk result (0 < self.new.room) }
+    /// Makes room for that many changes, and for taking them back. Where the room is there already, it can't fail.
+    pub(crate) fn reserve(&mut self, changes: u64) -> Result<(), AllocError>
+        ensures ok { OnOk result (changes ≤ self.new.room) }
+        ensures memory { OnErr result (self.old.room < changes) }
+        ensures room { self.old.room ≤ self.new.room }
         ensures now { self.new.now ≡ self.old.now }
         ensures settled { self.new.settled ≡ self.old.settled }
     {
-        let noted = self.undos.len();
-        self.files.reserve(noted.checked_add(2).ok_or(AllocError)?)?;
-        self.undos.reserve(1)
+        let changes = changes as usize;
+        self.undos.reserve(changes)?;
+        self.files.reserve(self.undos.len() + changes * 2)
     }
 
     /// Gives a key a file, or none. It takes no memory.
@@ -74,6 +76,7 @@ impl Files {
         requires { 0 < self.old.room }
         ensures now { self.new.now ≡ led self.old.now key file }
         ensures settled { self.new.settled ≡ self.old.settled }
+        ensures room { self.old.room ≤ self.new.room + 1 }
     {
         let before = exchange(&mut self.files, key, file);
         self.undos.push_reserved(Undo { key, before });
@@ -95,6 +98,7 @@ impl Files {
     pub(crate) fn settle(&mut self)
         ensures now { self.new.now ≡ self.old.now }
         ensures settled { self.new.settled ≡ self.old.now }
+        ensures room { self.old.room ≤ self.new.room }
     {
         self.undos.clear();
     }

@@ -1,4 +1,4 @@
-ghost use Rattle.std.specs.Prelude.{◌≡◌, ◌<◌, OnOk, OnErr};
+ghost use Rattle.std.specs.Prelude.{◌≡◌, ◌<◌, ◌≤◌, ◌+◌, OnOk, OnErr};
 ghost use Rattle.std.specs.FinMap as map;
 ghost use Rattle.std.specs.Option.{option_copied};
 ghost use Rattle.nuc_base.specs.Legal.{LegalPut, LegalCut};
@@ -13,7 +13,7 @@ use std::alloc::{AllocError, Global};
 use std::marker::Model;
 
 /// Files and folders, each under a key, as a folder in memory holds them. What was changed since the last `settle` can
-/// be taken back.
+/// be taken back. `spare` counts the changes that have room already; what a change copies is no part of that.
 ///
 /// They are the nodes of a tree, whose identities are the keys; key 0 is the root. A folder has version 0, each file
 /// version 1. A change takes time in the logarithm of the number of nodes, moves the rest of a few lists by one, and
@@ -25,6 +25,7 @@ pub struct Shelf {
 }
 
 impl Model for Shelf {
+    ghost use Rattle.std.specs.Prelude.{min};
     ghost use Rattle.nuc_undo.specs.State.{settled_of};
     ghost use Rattle.nuc_shelf.specs.Codes.{states_code};
     ghost use Rattle.nuc_shelf.specs.Shelf.{IsShelf, ShelfStates};
@@ -36,6 +37,7 @@ impl Model for Shelf {
     ghost view = { λ s. record {
       now = record { tree = s.tree.now; bytes = s.files.now };
       settled = record { tree = settled_of s.tree; bytes = s.files.settled };
+      spare = min s.tree.spare s.files.room;
     } };
 
     ghost invariant = { λ s. IsShelf (record { tree = s.tree.now; bytes = s.files.now }) × IsShelf (record { tree = settled_of s.tree; bytes = s.files.settled }) };
@@ -67,6 +69,19 @@ impl Shelf {
         ensures { option_copied result ≡ map.get self.now.now.bytes key }
     {
         self.files.get(key)
+    }
+
+    /// Makes room for that many more changes, and for taking them back. Where the room is there already, it can't fail; a
+    /// number too great to be had is want of memory.
+    pub fn reserve(&mut self, changes: u64) -> Result<(), AllocError>
+        ensures ok { OnOk result (changes ≤ self.new.spare) }
+        ensures memory { OnErr result (self.old.spare < changes) }
+        ensures now { self.new.now ≡ self.old.now }
+        ensures settled { self.new.settled ≡ self.old.settled }
+        ensures shelf { IsShelf self.new.now }
+    {
+        self.tree.reserve(changes)?;
+        self.files.reserve(changes)
     }
 
     /// Adds a folder under a key. Where a folder has that key already, it is put at the place.
@@ -105,8 +120,27 @@ impl Shelf {
         ensures settled { self.new.settled ≡ self.old.settled }
         ensures shelf { IsShelf self.new.now }
     {
-        self.files.reserve()?;
+        self.reserve(1)?;
         let file = ShelfFile::of(alloc, bytes)?;
+        self.put_file(key, place, file, bit)
+    }
+
+    /// Adds a file under a key. Where a file has that key already, place, bit and bytes take the place of its own.
+    pub fn put_file(
+        &mut self,
+        key: u64,
+        place: Place,
+        file: ShelfFile,
+        bit: bool,
+    ) -> Result<(), AllocError>
+        requires key { 0 < key }
+        requires legal { LegalPut self.old.now.tree key (file_at place bit) }
+        ensures ok { OnOk result (self.new.now ≡ with_file self.old.now key place bit file) }
+        ensures err { OnErr result (self.new.now ≡ self.old.now) }
+        ensures settled { self.new.settled ≡ self.old.settled }
+        ensures shelf { IsShelf self.new.now }
+    {
+        self.files.reserve(1)?;
         let node = Node {
             place,
             kind: Kind::File,
@@ -126,8 +160,20 @@ impl Shelf {
         ensures settled { self.new.settled ≡ self.old.settled }
         ensures shelf { IsShelf self.new.now }
     {
-        self.files.reserve()?;
+        self.reserve(1)?;
         let file = ShelfFile::of(alloc, bytes)?;
+        self.fill(key, file)
+    }
+
+    /// Gives a file the bytes of another in place of its own.
+    pub fn fill(&mut self, key: u64, file: ShelfFile) -> Result<(), AllocError>
+        requires { IsFile self.old.now.tree key }
+        ensures ok { OnOk result (self.new.now ≡ refilled self.old.now key file) }
+        ensures err { OnErr result (self.new.now ≡ self.old.now) }
+        ensures settled { self.new.settled ≡ self.old.settled }
+        ensures shelf { IsShelf self.new.now }
+    {
+        self.files.reserve(1)?;
         self.files.set(key, Some(file));
         Ok(())
     }
@@ -165,15 +211,17 @@ impl Shelf {
         Ok(())
     }
 
-    /// Removes a file, or a folder in which nothing stands. It wants memory to be able to go back.
+    /// Removes a file, or a folder in which nothing stands. It wants memory only when `spare` is 0.
     pub fn cut(&mut self, key: u64) -> Result<(), AllocError>
         requires { LegalCut self.old.now.tree key }
         ensures ok { OnOk result (self.new.now ≡ without self.old.now key) }
         ensures err { OnErr result (self.new.now ≡ self.old.now) }
         ensures settled { self.new.settled ≡ self.old.settled }
+        ensures memory { OnErr result (self.old.spare ≡ 0) }
+        ensures spare { self.old.spare ≤ self.new.spare + 1 }
         ensures shelf { IsShelf self.new.now }
     {
-        self.files.reserve()?;
+        self.files.reserve(1)?;
         self.tree.cut(NodeId(key))?;
         self.files.set(key, None);
         Ok(())

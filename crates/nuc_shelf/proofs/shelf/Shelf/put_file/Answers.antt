@@ -4,7 +4,7 @@ use Rattle.nuc_base.specs.Trees.{WellFormed}
 use Rattle.nuc_shelf.specs.Files.{led}
 use Rattle.nuc_shelf.specs.Shelf.{ShelfState, file_at}
 use Rattle.nuc_shelf.proofs.Shelves.{put_file, shelf_at}
-use Rattle.nuc_shelf.proofs.shelf.Shelf.add_file.Goals as goal
+use Rattle.nuc_shelf.proofs.shelf.Shelf.put_file.Goals as goal
 
 pub invariant_of-self-2 : goal.invariant_of-self-2
 invariant_of-self-2 c =
@@ -12,8 +12,8 @@ invariant_of-self-2 c =
     let n = file_at c.args.place c.args.bit in
     let legal = subst (λ m. LegalPut m c.args.key n) (sym (ap (λ s. s.now.tree) c.self.view_is)) c.requires.legal in
     let form = subst WellFormed c.in_ok-put.ensures.ok c.put.ensures.form in
-    let is = put_file s c.args.key n c.self.invariant.0 form (λ e. refl) c.args.bytes.now refl legal.kind in
-    let bytes = c.set.ensures.now ∙ (λ i. led (c.in_ok-reserve.ensures.now i) c.args.key (Some (c.in_ok-file.ensures i))) in
+    let is = put_file s c.args.key n c.self.invariant.0 form (λ e. refl) c.args.file refl legal.kind in
+    let bytes = c.set.ensures.now ∙ ap (λ m. led m c.args.key (Some c.args.file)) c.in_ok-reserve.ensures.now in
     (shelf_at _ _ _ _ c.in_ok-put.ensures.ok bytes is, shelf_at _ _ _ _ c.put.ensures.settled (c.set.ensures.settled ∙ c.in_ok-reserve.ensures.settled) c.self.invariant.1)
 
 pub returns-clause-shelf : goal.returns-clause-shelf
