@@ -5,7 +5,7 @@ ghost use Rattle.nuc_run.specs.Scan.{is_known, key_of};
 
 use nuc_base::NodeId;
 use nuc_folder::Key;
-use nuc_tree::Tree;
+use nuc_index::IndexTree;
 use sqlite_items::Items;
 use std::alloc::Global;
 
@@ -19,9 +19,9 @@ pub struct Binding {
 /// The client: its three trees, the keys of Local's files, and how far it has come.
 #[derive(Debug, Drop)]
 pub struct Client {
-    pub remote: Tree,
-    pub local: Tree,
-    pub synced: Tree,
+    pub remote: IndexTree,
+    pub local: IndexTree,
+    pub synced: IndexTree,
     pub keys: Items<Binding>,
     /// The revision up to which Remote has the server's journal.
     pub cursor: u64,
@@ -40,9 +40,9 @@ impl Client {
         ensures others { result ≡ record result { keys = []; cursor = 0; changes = 0; next_op = 1 } }
     {
         Client {
-            remote: Tree::new(alloc),
-            local: Tree::new(alloc),
-            synced: Tree::new(alloc),
+            remote: IndexTree::new(alloc),
+            local: IndexTree::new(alloc),
+            synced: IndexTree::new(alloc),
             keys: Items::new(alloc),
             cursor: 0,
             changes: 0,

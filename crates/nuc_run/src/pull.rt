@@ -13,7 +13,7 @@ use crate::world::{CLIENT, World, record};
 use nuc_base::{cut_legal, put_legal};
 use nuc_journal::Entry;
 use nuc_step::{Event, Log, Reply};
-use nuc_tree::Tree;
+use nuc_index::IndexTree;
 use std::alloc::{AllocError, Global};
 
 impl World {
@@ -38,7 +38,7 @@ impl World {
 }
 
 /// Makes the changes of a page of the journal in the tree before it. Only memory can be wanted.
-fn take_page(alloc: Global, remote: &mut Tree, page: &[Entry]) -> Result<(), AllocError>
+fn take_page(alloc: Global, remote: &mut IndexTree, page: &[Entry]) -> Result<(), AllocError>
     requires form { WellFormed remote.old.nodes }
     requires legal { CanFollow remote.old.nodes page.now }
     ensures nodes { OnOk result (remote.new.nodes ≡ tree_after remote.old.nodes page.now) }
@@ -50,7 +50,7 @@ fn take_page(alloc: Global, remote: &mut Tree, page: &[Entry]) -> Result<(), All
     Ok(())
 }
 
-fn take_entry(alloc: Global, remote: &mut Tree, entry: &Entry) -> Result<(), AllocError>
+fn take_entry(alloc: Global, remote: &mut IndexTree, entry: &Entry) -> Result<(), AllocError>
     requires form { WellFormed remote.old.nodes }
     requires id { 0 < entry.now.id.0 }
     requires legal { IsLegalValue remote.old.nodes entry.now.id.0 entry.now.value }

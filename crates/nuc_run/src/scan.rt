@@ -12,7 +12,7 @@ use nuc_base::{Counters, Kind, Name, Node, NodeId, Place, Ver, put_legal};
 use nuc_edits::{EditKind, Edits};
 use nuc_folder::Item;
 use nuc_hash::Content;
-use nuc_tree::Tree;
+use nuc_index::IndexTree;
 use sqlite_items::Items;
 use std::alloc::{AllocError, Global};
 
@@ -21,7 +21,7 @@ use std::alloc::{AllocError, Global};
 pub fn observe(
     alloc: Global,
     items: &[Item],
-    local: &mut Tree,
+    local: &mut IndexTree,
     keys: &mut Items<Binding>,
     edits: &mut Edits,
     ids: &mut Counters,
@@ -44,7 +44,7 @@ pub fn observe(
 fn observe_item(
     alloc: Global,
     item: &Item,
-    local: &mut Tree,
+    local: &mut IndexTree,
     keys: &mut Items<Binding>,
     edits: &mut Edits,
     ids: &mut Counters,
@@ -73,7 +73,7 @@ fn add_file(
     alloc: Global,
     item: &Item,
     content: &Content,
-    local: &mut Tree,
+    local: &mut IndexTree,
     keys: &mut Items<Binding>,
     edits: &mut Edits,
     ids: &mut Counters,
