@@ -3,6 +3,8 @@
 
 mod answers;
 mod client;
+#[cfg(test)]
+mod client_tests;
 mod counts;
 mod event;
 mod landing;
@@ -13,6 +15,8 @@ mod reason;
 mod reply;
 #[cfg(test)]
 mod tests;
+#[cfg(test)]
+mod trial;
 mod view;
 
 pub use answers::{FlyReply, NoSuchOp, TakeFault};
