@@ -7,4 +7,5 @@ pub mod Laying
 mod LocalAfter
 mod Outcomes
 mod Steady
+mod Trials
 mod Written

@@ -1,11 +1,11 @@
 //! A client beside a server's journal, for tests.
-ghost use Rattle.std.specs.Prelude.{◌≡◌, ◌<◌, ◌+◌, ℕ, All, IfSome, IsTrue, false};
+ghost use Rattle.std.specs.Prelude.{◌≡◌, ◌<◌, ◌+◌, ℕ, All, IfSome, IsTrue, drop, false, length, take};
 ghost use Rattle.nuc_base.specs.Changes.{FitsChange};
 ghost use Rattle.nuc_base.specs.Kinds.{FitsKind};
 ghost use Rattle.nuc_base.specs.Legal.{LegalPut};
 ghost use Rattle.nuc_flights.specs.Flights.{flight_of};
 ghost use Rattle.nuc_journal.specs.Entries.{tree_of};
-ghost use Rattle.nuc_journal.specs.Journal.{HadKind, IsNextEntry};
+ghost use Rattle.nuc_journal.specs.Journal.{HadKind, IsJournal, IsNextEntry};
 ghost use Rattle.nuc_step.specs.Sound as sound;
 ghost use Rattle.nuc_step.specs.Sound.{FitsTaken, MayFly};
 ghost use Rattle.nuc_step.specs.Steps.{is_split};
@@ -141,7 +141,9 @@ fn ops(rt: &impl Abort, alloc: Global, drafts: &[Draft]) -> Vec<Op>
 {
     let mut ops = Vec::new(alloc);
     for draft in drafts {
-        assert!(rt; ops.push(op(rt, alloc, *draft)).is_ok());
+        let Ok(()) = ops.push(op(rt, alloc, *draft)) else {
+            panic!(rt; "out of memory")
+        };
     }
     ops
 }
@@ -228,6 +230,18 @@ fn next_entry(rt: &impl Abort, alloc: Global, journal: &Journal, id: u64, shape:
     }
 }
 
+/// The next entries after a revision.
+fn next_entries<'a>(rt: &impl Abort, journal: &'a Journal, after: u64, count: usize) -> &'a [Entry]
+    ensures entries { result.now ≡ take count (drop after journal.now.now) }
+    ensures count { length result.now ≡ count }
+    ensures journal { IsJournal journal.now.now }
+{
+    let _entries = journal.entries();
+    let next = journal.since(after);
+    assert!(rt; count <= next.len());
+    &next[..count]
+}
+
 /// A client, the server's journal that it follows, and the list of edits. What each call requires of a client is seen to
 /// when it is made, so that a test may make any.
 #[derive(Drop)]
@@ -269,14 +283,17 @@ impl Trial {
     /// The server accepts a folder for an identity.
     pub(crate) fn put(&mut self, rt: &impl Abort, id: u64, shape: Shape) {
         let entry = next_entry(rt, self.alloc, &self.journal, id, shape);
-        assert!(rt; self.journal.push(entry).is_ok());
+        let Ok(()) = self.journal.push(entry) else {
+            panic!(rt; "out of memory")
+        };
     }
 
     /// So many entries more are pulled.
     pub(crate) fn pull(&mut self, rt: &impl Abort, count: usize) {
-        let next = self.journal.since(self.client.cursor());
-        assert!(rt; count <= next.len());
-        assert!(rt; self.client.pull(self.alloc, &next[..count]).is_ok());
+        let page = next_entries(rt, &self.journal, self.client.cursor(), count);
+        let Ok(_) = self.client.pull(self.alloc, page) else {
+            panic!(rt; "out of memory")
+        };
     }
 
     pub(crate) fn fly(&mut self, rt: &impl Abort, drafts: &[Draft]) -> FlyReply {
@@ -296,14 +313,15 @@ impl Trial {
         taken: Taken,
         heard: usize,
     ) -> Result<(), TakeFault> {
-        let next = self.journal.since(self.client.cursor());
-        assert!(rt; heard <= next.len());
+        let news = next_entries(rt, &self.journal, self.client.cursor(), heard);
         see_that_it_fits(rt, &self.client, number, taken, heard);
-        self.client.take(self.alloc, number, taken, &next[..heard])
+        self.client.take(self.alloc, number, taken, news)
     }
 
     pub(crate) fn done(&mut self, rt: &impl Abort, number: u64) -> DoneReply {
-        assert!(rt; self.edits.reserve(1).is_ok());
+        let Ok(()) = self.edits.reserve(1) else {
+            panic!(rt; "out of memory")
+        };
         self.client.done(number, &mut self.edits)
     }
 
