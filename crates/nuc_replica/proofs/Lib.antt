@@ -4,3 +4,5 @@ pub mod Heard
 pub mod Kept
 pub mod Laying
 pub mod Locals
+pub mod Paged
+mod Trials
