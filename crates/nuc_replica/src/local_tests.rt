@@ -1,7 +1,8 @@
-ghost use Rattle.std.specs.Prelude.{◌≡◌, ◌≢◌, ◌<◌, None, Some};
+ghost use Rattle.std.specs.Prelude.{◌≡◌, ◌≢◌, ◌<◌, IfSome, IsSomeAnd, None};
 ghost use Rattle.std.specs.FinMap as map;
 ghost use Rattle.nuc_base.specs.Kinds.{FitsKind};
 ghost use Rattle.nuc_base.specs.Legal.{LegalCut, LegalPut};
+ghost use Rattle.nuc_base.specs.Trees.{IsThere};
 ghost use Rattle.nuc_observe.specs.Keys.{IsUnheld};
 ghost use Rattle.nuc_undo.specs.Laid.{with_node};
 
@@ -35,6 +36,15 @@ fn see_that_it_is_new(rt: &impl Abort, local: &Local<Tree>, id: NodeId)
     ensures { map.get local.now.now.tree id.0 ≡ None }
 {
     assert!(rt; local.tree().get(id).is_none());
+}
+
+/// Sees that an identity is there.
+fn see_that_it_is_there(rt: &impl Abort, local: &Local<Tree>, id: NodeId)
+    ensures { IsThere local.now.now.tree id.0 }
+{
+    if local.tree().get(id).is_none() {
+        panic!(rt; "it isn't there")
+    }
 }
 
 /// Sees that nobody has a key.
@@ -73,15 +83,29 @@ fn cut(rt: &impl Abort, local: &mut Local<Tree>, id: u64) {
     local.cut(NodeId(id));
 }
 
+/// Sees that a node may come to an identity, settles all, and lays the node by.
+fn lay_by(rt: &impl Abort, alloc: Global, local: &mut Local<Tree>, id: NodeId, shape: Shape)
+    ensures id { 0 < id.0 }
+    ensures room { 1 < local.new.spare }
+    ensures legal { IsSomeAnd (map.get local.new.laid 1) (λ node. LegalPut local.new.now.tree id.0 node) }
+    ensures parent { IfSome (map.get local.new.laid 1) (λ node. node.place.parent.0 ≡ shape.entry.0) }
+{
+    let node = node(rt, alloc, shape);
+    local.settle();
+    let Ok(()) = local.reserve(2) else {
+        panic!(rt; "out of memory")
+    };
+    see_that_it_is_legal(rt, local, id, &node);
+    let Ok(()) = local.lay_by(1, node) else {
+        panic!(rt; "out of memory")
+    };
+}
+
 /// Lays a node by, and gives it to an identity that is there. Before that all is settled.
 fn put(rt: &impl Abort, alloc: Global, local: &mut Local<Tree>, id: u64, shape: Shape) {
     let id = NodeId(id);
-    let node = node(rt, alloc, shape);
-    assert!(rt; local.reserve(1).is_ok());
-    see_that_it_is_legal(rt, local, id, &node);
-    assert!(rt; local.tree().get(id).is_some());
-    local.settle();
-    assert!(rt; local.lay_by(1, node).is_ok());
+    lay_by(rt, alloc, local, id, shape);
+    see_that_it_is_there(rt, local, id);
     local.put_laid(1, id);
 }
 
@@ -95,28 +119,26 @@ fn add_laid(
     key: u64,
 ) {
     let (id, key) = (NodeId(id), Key(key));
-    let node = node(rt, alloc, shape);
-    assert!(rt; local.reserve(1).is_ok());
+    lay_by(rt, alloc, local, id, shape);
     see_that_it_is_new(rt, local, id);
-    see_that_it_is_legal(rt, local, id, &node);
     see_that_it_is_free(rt, local, key);
-    local.settle();
-    assert!(rt; local.lay_by(1, node).is_ok());
     local.add_laid(1, id, key);
 }
 
-/// Sees that an identity may go once another has this node.
+/// Sees that an identity may go once another has the node that is laid by, which has this parent.
 fn see_that_it_may_go_then(
     rt: &impl Abort,
     local: &Local<Tree>,
     id: NodeId,
     to: NodeId,
-    node: &Node,
+    parent: u64,
 )
+    requires { IfSome (map.get local.now.laid 1) (λ node. node.place.parent.0 ≡ parent) }
     ensures other { id.0 ≢ to.0 }
-    ensures cut { LegalCut (with_node local.now.now.tree to.0 (Some node.now)) id.0 }
+    ensures cut { LegalCut (with_node local.now.now.tree to.0 (map.get local.now.laid 1)) id.0 }
 {
-    assert!(rt; id.0 != to.0 && node.place.parent.0 != id.0);
+    assert!(rt; id.0 != to.0);
+    assert!(rt; parent != id.0);
     see_that_it_may_go(rt, local, id);
 }
 
@@ -130,13 +152,9 @@ fn hand_over(
     shape: Shape,
 ) {
     let (id, to) = (NodeId(id), NodeId(to));
-    let node = node(rt, alloc, shape);
-    assert!(rt; local.reserve(2).is_ok());
+    lay_by(rt, alloc, local, to, shape);
     see_that_it_is_new(rt, local, to);
-    see_that_it_is_legal(rt, local, to, &node);
-    see_that_it_may_go_then(rt, local, id, to, &node);
-    local.settle();
-    assert!(rt; local.lay_by(1, node).is_ok());
+    see_that_it_may_go_then(rt, local, id, to, shape.0);
     local.hand_over(1, id, to);
 }
 
@@ -146,13 +164,19 @@ fn has(rt: &impl Abort, local: &Local<Tree>, rows: &[(u64, Shape, u64)]) {
     assert_eq!(rt; local.keys().len(), rows.len() as u64);
     for &(id, (parent, name, ver), key) in rows {
         let node = local.tree().get(NodeId(id));
-        assert!(rt; node.is_some_and(|n| n.place.parent.0 == parent && n.place.name.bytes() == name && n.ver.0 == ver));
+        assert!(rt;
+            node.is_some_and(|n| n.place.parent.0 == parent
+                && n.place.name.bytes() == name
+                && n.ver.0 == ver)
+        );
         assert!(rt; local.keys().key_of(NodeId(id)) == Some(Key(key)));
     }
 }
 
 const D: Shape = (0, b"d", 0);
+
 const F_IN_D: Shape = (1, b"f", 3);
+
 const F: Shape = (0, b"f", 4);
 
 #[test]

@@ -18,7 +18,8 @@ use std::process::Abort;
 pub(crate) type Shape = (u64, &'static [u8], u64);
 
 pub(crate) fn node(rt: &impl Abort, alloc: Global, shape: Shape) -> Node
-    ensures { FitsKind result }
+    ensures fits { FitsKind result }
+    ensures parent { result.place.parent.0 ≡ shape.entry.0 }
 {
     let (parent, name, ver) = shape;
     let Ok(name) = Name::new(alloc, name) else {
@@ -71,12 +72,7 @@ fn next_entry(rt: &impl Abort, alloc: Global, journal: &Journal, id: u64, shape:
 }
 
 /// The next entries after a revision.
-fn next_entries<'a>(
-    rt: &impl Abort,
-    journal: &'a Journal,
-    after: u64,
-    count: usize,
-) -> &'a [Entry]
+fn next_entries<'a>(rt: &impl Abort, journal: &'a Journal, after: u64, count: usize) -> &'a [Entry]
     ensures entries { result.now ≡ take count (drop after journal.now.now) }
     ensures journal { IsJournal journal.now.now }
 {

@@ -8,11 +8,11 @@ use Rattle.nuc_edits.specs.Edits.{Recorded}
 use Rattle.nuc_flights.specs.Flights.{Flight, flight_of}
 use Rattle.nuc_flights.specs.declared.taken.Taken.{Taken}
 use Rattle.nuc_flights.specs.declared.taken.Taken.TheVariants as came
-use Rattle.nuc_journal.specs.Journal.{IsJournal}
 use Rattle.nuc_journal.specs.declared.entry.Entry.{Entry}
 use Rattle.nuc_replica.specs.Following.{IsAt}
-use Rattle.nuc_replica.specs.Remote.{Follows, RemoteState, heard, with_entries}
-use Rattle.nuc_replica.proofs.Journaled.{at_caught_up, at_heard, at_more, at_next, at_start, next_entries_follow}
+use Rattle.nuc_replica.specs.Remote.{RemoteState, heard}
+use Rattle.nuc_replica.proofs.Journaled.{at_caught_up, at_more, at_start}
+use Rattle.nuc_replica.proofs.Paged.{at_news, at_page}
 use Rattle.nuc_step.specs.Calls.{TakeAnswers}
 use Rattle.nuc_step.specs.Client.{ClientState, ClientStates}
 use Rattle.nuc_step.specs.Steps.{IsDone, after_pull, caught_up_to, finished, landed}
@@ -28,20 +28,13 @@ use Rattle.nuc_step.proofs.Outcomes.Came.{applied, dropped, nothing}
 abbrev pub StaysAt : List Entry → ClientStates → Type 0
 StaysAt es c = IsAt es c.now.remote × IsAt es c.settled.remote
 
-same_page : (es page : List Entry) (s : RemoteState) (n k : ℕ) → k ≡ s.cursor → page ≡ take n (drop k es) → page ≡ take n (drop s.cursor es)
-same_page es page s n k cursor is = is ∙ ap (λ i. take n (drop i es)) cursor
-
-pub next_follow : (es page : List Entry) (s : RemoteState) (n k : ℕ) → k ≡ s.cursor → page ≡ take n (drop k es) → IsJournal es → IsAt es s → Follows s page
-next_follow es page s n k cursor is journal at = subst (Follows s) (sym (same_page es page s n k cursor is)) (next_entries_follow es s n journal at)
-
 then_too : (es : List Entry) (c d : ClientStates) → d.settled ≡ c.settled → StaysAt es c → IsAt es d.now.remote → StaysAt es d
 then_too es c d settled at now = (now, subst (λ (x : ClientState). IsAt es x.remote) (sym settled) at.1)
 
 pub at_pulled : (es page : List Entry) (c d : ClientStates) (n k : ℕ) → k ≡ c.now.remote.cursor → page ≡ take n (drop k es)
     → d.now ≡ after_pull page c.now → d.settled ≡ c.settled → StaysAt es c → StaysAt es d
 at_pulled es page c d n k cursor is now settled at =
-    let next = subst (λ p. IsAt es (with_entries c.now.remote p)) (sym (same_page es page c.now.remote n k cursor is)) (at_next es c.now.remote n at.0) in
-    then_too es c d settled at (subst (λ (x : ClientState). IsAt es x.remote) (sym now) next)
+    then_too es c d settled at (subst (λ (x : ClientState). IsAt es x.remote) (sym now) (at_page es page c.now.remote n k cursor is at.0))
 
 at_taken_now : (es news : List Entry) (c d : ClientState) (n : ℕ) (t : Taken) (r : Result (Unit {0}) TakeFault) → TakeAnswers c n t news r d
     → IsAt es c.remote → IsAt es (heard news c.remote) → IsAt es d.remote
@@ -52,8 +45,7 @@ at_taken_now es news c d n t (result.Err fault.Memory) answer at more = subst (�
 pub at_taken : (es news : List Entry) (c d : ClientStates) (n k i : ℕ) (t : Taken) (r : Result (Unit {0}) TakeFault) → k ≡ c.now.remote.cursor → news ≡ take n (drop k es)
     → TakeAnswers c.now i t news r d.now → d.settled ≡ c.settled → StaysAt es c → StaysAt es d
 at_taken es news c d n k i t r cursor is answer settled at =
-    let more = subst (λ p. IsAt es (heard p c.now.remote)) (sym (same_page es news c.now.remote n k cursor is)) (at_heard es c.now.remote n at.0) in
-    then_too es c d settled at (at_taken_now es news c.now d.now i t r answer at.0 more)
+    then_too es c d settled at (at_taken_now es news c.now d.now i t r answer at.0 (at_news es news c.now.remote n k cursor is at.0))
 
 at_caught_up_to : (es : List Entry) (s : RemoteState) (t : Taken) → IsAt es s → IsAt es (caught_up_to t s)
 at_caught_up_to es s (came.Folder o) at = at

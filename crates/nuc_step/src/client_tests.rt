@@ -21,7 +21,9 @@ fn has(rt: &impl Abort, tree: &Tree, shapes: &[Shape]) {
     assert_eq!(rt; tree.len(), shapes.len() as u64);
     for (i, &(parent, name)) in shapes.iter().enumerate() {
         let node = tree.get(NodeId(i as u64 + 1));
-        assert!(rt; node.is_some_and(|n| n.place.parent.0 == parent && n.place.name.bytes() == name));
+        assert!(rt;
+            node.is_some_and(|n| n.place.parent.0 == parent && n.place.name.bytes() == name)
+        );
     }
 }
 
@@ -42,16 +44,29 @@ fn end(rt: &impl Abort, trial: &mut Trial, number: u64, taken: Taken, reply: Don
 /// The folder carries out an operation alone, under this number. What is new gets the identity for its key.
 fn carry_out(rt: &impl Abort, trial: &mut Trial, draft: Draft, number: u64, outcome: Outcome) {
     begin(rt, trial, &[draft], &[number]);
-    end(rt, trial, number, Taken::Folder(outcome), DoneReply::Applied);
+    end(
+        rt,
+        trial,
+        number,
+        Taken::Folder(outcome),
+        DoneReply::Applied,
+    );
 }
 
 const A: Shape = (0, b"A");
+
 const Y: Shape = (0, b"Y");
+
 const X_IN_Y: Shape = (2, b"X");
+
 const Z: Shape = (0, b"Z");
+
 const X: Shape = (0, b"X");
+
 const Y_IN_A: Shape = (1, b"Y");
+
 const X_IN_Z: Shape = (4, b"X");
+
 const A_IN_X: Shape = (3, b"A");
 
 /// The server has the folders `A`, `Y`, `Y/X` and `Z`, and all of them come to the client.
@@ -109,9 +124,8 @@ fn the_other_is_stale_where_they_end_in_the_other_order(rt: HostRuntime) {
 
 /// Each operation under its number is taken so, dropped for this reason, and known no more.
 fn are_dropped(rt: &impl Abort, trial: &mut Trial, ends: &[(Taken, Reason)]) {
-    let mut number = 0;
-    for &(taken, reason) in ends {
-        number += 1;
+    for (i, &(taken, reason)) in ends.iter().enumerate() {
+        let number = i as u64 + 1;
         begin(rt, trial, &[down(1, None, A)], &[number]);
         end(rt, trial, number, taken, DoneReply::Dropped(reason));
         assert_eq!(rt; trial.done(rt, number), DoneReply::NoSuchOp);
@@ -159,7 +173,12 @@ fn an_operation_goes_from_stage_to_stage(rt: HostRuntime) {
     let refused = Taken::Refused(Refusal::NoParent);
     begin(&rt, &mut trial, &[up(1, None, A)], &[]);
     assert!(&rt; trial.fly(&rt, &[]) == FlyReply::Busy(1));
-    assert!(&rt; trial.client().in_flight(1).is_some_and(|op| op.number == 1 && op.base == 0));
+    assert!(&rt;
+        trial
+            .client()
+            .in_flight(1)
+            .is_some_and(|op| op.number == 1 && op.base == 0)
+    );
     assert!(&rt; trial.client().in_flight(2).is_none() && !trial.start(2));
     assert!(&rt; trial.take(&rt, 1, refused, 0) == Err(TakeFault::NoSuchOp));
     assert!(&rt; trial.start(1) && !trial.start(1));
@@ -169,7 +188,13 @@ fn an_operation_goes_from_stage_to_stage(rt: HostRuntime) {
 /// The user makes `a` and `b`, and the server accepts both.
 fn with_two_commits(rt: &impl Abort, trial: &mut Trial) {
     for (id, shape) in [(1, A), (2, Z)] {
-        carry_out(rt, trial, local(id, None, shape), id, Outcome::Made(Key(id)));
+        carry_out(
+            rt,
+            trial,
+            local(id, None, shape),
+            id,
+            Outcome::Made(Key(id)),
+        );
         trial.put(rt, id, shape);
     }
     begin(rt, trial, &[up(1, None, A), up(2, None, Z)], &[3, 4]);

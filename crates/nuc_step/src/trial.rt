@@ -171,13 +171,7 @@ fn can_be_taken(op: &Op, taken: Taken, known: u64) -> bool
 }
 
 /// Sees that the operation under this number, if there is one, can be taken so.
-fn see_that_it_fits(
-    rt: &impl Abort,
-    client: &Client<Tree>,
-    number: u64,
-    taken: Taken,
-    heard: usize,
-)
+fn see_that_it_fits(rt: &impl Abort, client: &Client<Tree>, number: u64, taken: Taken, heard: usize)
     ensures { IfSome (flight_of number client.now.now.flights) (λ f. FitsTaken (client.now.now.remote.cursor + heard) f.op taken) }
 {
     let cursor = client.cursor();
@@ -198,13 +192,7 @@ fn had_kind(journal: &Journal, id: NodeId, kind: Kind) -> bool
 }
 
 /// Sees that a node may come to an identity as the server's tree is.
-fn see_that_it_is_legal(
-    rt: &impl Abort,
-    alloc: Global,
-    journal: &Journal,
-    id: NodeId,
-    node: &Node,
-)
+fn see_that_it_is_legal(rt: &impl Abort, alloc: Global, journal: &Journal, id: NodeId, node: &Node)
     requires { FitsKind node.now }
     ensures id { 0 < id.0 }
     ensures legal { LegalPut (tree_of journal.now.now) id.0 node.now }

@@ -10,7 +10,6 @@ mod journaling;
 mod layout;
 mod pages;
 mod placing;
-mod planning;
 mod storing;
 #[cfg(test)]
 mod tests;
@@ -50,9 +49,6 @@ fn run(alloc: Global, words: &[String]) -> Result<String, Fault> {
         [] => small(alloc),
         [work, count] => count_by(alloc, work.as_str(), count.as_str()),
         [command, size, piece] => hash_by(alloc, command.as_str(), number(size)?, number(piece)?),
-        [command, count, differing, times] if command.as_str() == "plan" => {
-            plan_by(alloc, count.as_str(), number(differing)?, number(times)?)
-        }
         _ => Err(Fault::Usage),
     }
 }
@@ -75,11 +71,6 @@ fn hash_by(alloc: Global, command: &str, size: u64, piece: u64) -> Result<String
     }
 }
 
-/// So many times the plan of trees of so many nodes.
-fn plan_by(alloc: Global, count: &str, differing: u64, times: u64) -> Result<String, Fault> {
-    planning::plans(alloc, count_of(count)?, differing, times)
-}
-
 fn number(word: &String) -> Result<u64, Fault> {
     word.as_str().parse().map_err(|_| Fault::Usage)
 }
@@ -88,8 +79,7 @@ fn number(word: &String) -> Result<u64, Fault> {
 fn small(alloc: Global) -> Result<String, Fault> {
     let hash = hashing::hash(alloc, 1_000, 300)?;
     let sha2 = hashing::sha2(alloc, 1_000, 300)?;
-    let plan = planning::plans(alloc, 70, 3, 2)?;
-    let mut text = format!(in alloc; "hash {hash}\nsha2 {sha2}\n{plan}")?;
+    let mut text = format!(in alloc; "hash {hash}\nsha2 {sha2}")?;
     for work in Work::ALL {
         let line = work.run(alloc, 70)?;
         text.push_str("\n")?;

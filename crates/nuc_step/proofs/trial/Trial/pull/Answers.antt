@@ -1,4 +1,5 @@
-use Rattle.nuc_step.proofs.Trials.{at_pulled, next_follow}
+use Rattle.nuc_replica.proofs.Paged.{next_follow}
+use Rattle.nuc_step.proofs.Trials.{at_pulled}
 use Rattle.nuc_step.proofs.trial.Trial.pull.Goals as goal
 
 pub pull-requires : goal.pull-requires

@@ -1,4 +1,5 @@
-use Rattle.nuc_step.proofs.Trials.{at_taken, next_follow}
+use Rattle.nuc_replica.proofs.Paged.{next_follow}
+use Rattle.nuc_step.proofs.Trials.{at_taken}
 use Rattle.nuc_step.proofs.trial.Trial.take.Goals as goal
 
 pub take-requires-clause-news : goal.take-requires-clause-news
