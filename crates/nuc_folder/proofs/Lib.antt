@@ -1,3 +1,4 @@
+mod UserChanges
 pub mod Formed
 pub mod Inserts
 pub mod NamesTold

@@ -6,3 +6,4 @@ pub mod FlatWrite
 pub mod Listing
 pub mod Outcome
 pub mod State
+pub mod UserEdits

@@ -17,6 +17,8 @@ mod read_back;
 mod seen;
 #[cfg(test)]
 mod tests;
+mod user_change;
+mod user_edit;
 
 pub use flat_edit::{FlatEdit, FlatReply};
 pub use flat_folder::FlatFolder;
@@ -29,3 +31,4 @@ pub use outcome::Outcome;
 pub use ran::RanOp;
 pub use read_back::ReadBack;
 pub use seen::Seen;
+pub use user_edit::{UserEdit, UserReply};
