@@ -2,7 +2,7 @@
 -- first of Changed, Taken and NotEmpty is; each has those before it as not the case. `Failed` and `Memory` may come
 -- whatever it holds.
 use Rattle.std.specs.Prelude.{◌≡◌, ◌<◌, ◌≤◌, ℕ, Bool, List, All, length, Option, None, Some}
-use Rattle.std.specs.FinMap.{get, len}
+use Rattle.std.specs.FinMap.{get}
 use Rattle.nuc_base.specs.Legal.{IsFree}
 use Rattle.nuc_base.specs.Trees.{Nodes, IsFolder, IsUnder, IsVacant, StandsAt, Held, HasChild, NoChild}
 use Rattle.nuc_base.specs.declared.node.Kind.TheVariants.{File}
@@ -13,6 +13,7 @@ use Rattle.nuc_hash.specs.declared.digest.Digest.{Digest}
 use Rattle.nuc_folder.specs.Listing.{IsListing}
 use Rattle.nuc_shelf.specs.Shelf.{marked, moved, refilled, with_file, with_folder, without}
 use Rattle.nuc_folder.specs.State.{FolderState, place_of}
+use Rattle.nuc_folder.specs.declared.item.Item.{Item}
 use Rattle.nuc_folder.specs.declared.listed.Listed.{Listed}
 use Rattle.nuc_folder.specs.declared.listed.Listed.TheVariants as listed
 use Rattle.nuc_folder.specs.declared.listed.TheConstants.{MOST_ITEMS}
@@ -170,7 +171,7 @@ RemoveAnswers x seen old outcome.Taken new = ⊥
 -- CALLS THAT ASK
 abbrev pub ListAnswers : FolderState → Listed → FolderState → Type 0
 ListAnswers old (listed.Items items) new = IsListing old items × (length items ≤ MOST_ITEMS) × (new ≡ old)
-ListAnswers old (listed.TooLong n) new = (n ≡ len old.tree) × (MOST_ITEMS < n) × (new ≡ old)
+ListAnswers old (listed.TooLong n) new = (items : List Item) × IsListing old items × (n ≡ length items) × (MOST_ITEMS < n) × (new ≡ old)
 ListAnswers old listed.Failed new = new ≡ old
 ListAnswers old listed.Memory new = new ≡ old
 

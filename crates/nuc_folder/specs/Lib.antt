@@ -1,9 +1,12 @@
 pub mod Answers
+pub mod Codes
 pub mod FlatFolder
 pub mod FlatFormed
 pub mod FlatListing
 pub mod FlatWrite
 pub mod Listing
+pub mod Memory
 pub mod Outcome
+pub mod Pending
 pub mod State
 pub mod UserEdits

@@ -1,6 +1,6 @@
 -- The listing of a folder: an item for each file and folder. Parents stand before what is in them, depth first, and what
 -- is in one folder stands in the order of the names' bytes.
-use Rattle.std.specs.Prelude.{◌≡◌, ℕ, List, [], ◌∷◌, ◌++◌, Option, None, Some, AllPairs, Contains, option_map}
+use Rattle.std.specs.Prelude.{◌≡◌, ◌⊎◌, ℕ, List, [], ◌∷◌, ◌++◌, Option, None, Some, option_map}
 use Rattle.std.specs.Cmp.Lexicographic.{slice_cmp}
 use Rattle.std.specs.FinMap.{get}
 use Rattle.std.specs.Ordering.{nat_cmp}
@@ -11,7 +11,7 @@ use Rattle.nuc_hash.specs.Content.{content_of}
 use Rattle.nuc_folder.specs.State.{FolderState}
 use Rattle.nuc_folder.specs.declared.item.Item.{Item}
 
--- the item of a node with this key, where the file has these bytes
+-- the item of a node with this key, where a file has these bytes
 abbrev pub item_of : ℕ → Node → Option (List ℕ) → Item
 item_of x n bytes = record {
   key = record { 0 = x };
@@ -21,27 +21,51 @@ item_of x n bytes = record {
   bit = n.bit;
 }
 
--- the name of x comes before that of y, by their bytes
-abbrev pub IsBefore : Nodes → ℕ → ℕ → Type 0
-IsBefore m x y = (n k : Node) → get m x ≡ Some n → get m y ≡ Some k → slice_cmp nat_cmp n.place.name k.place.name ≡ Less
+-- this is the item of what stands there with its key
+abbrev pub IsItem : FolderState → Item → Type 0
+IsItem s item = (n : Node) × (get s.tree item.key.0 ≡ Some n) × (item ≡ item_of item.key.0 n (get s.bytes item.key.0))
 
--- these are the keys of what is in x, in the order of the names
-pub record InOrder (m : Nodes) (x : ℕ) (keys : List ℕ) : Type 0 where
-  pub each : (y : ℕ) → Contains keys y → (n : Node) × (get m y ≡ Some n) × (n.place.parent.0 ≡ x)
-  pub all : (y : ℕ) (n : Node) → get m y ≡ Some n → n.place.parent.0 ≡ x → Contains keys y
-  pub order : AllPairs (IsBefore m) keys
+-- x is the key of one of the items
+abbrev pub HasKey : List Item → ℕ → Type 0
+HasKey [] x = ⊥
+HasKey (item ∷ items) x = (item.key.0 ≡ x) ⊎ HasKey items x
 
--- these are the items of the keys in order, behind each item those of what is below it
-pub data Lists (s : FolderState) : List ℕ → List Item → Type 0 where
-  none : Lists s [] []
-  next : (x : ℕ) (n : Node) (inside keys : List ℕ) (below items : List Item) → get s.tree x ≡ Some n
-      → InOrder s.tree x inside → Lists s inside below → Lists s keys items → Lists s (x ∷ keys) (item_of x n (get s.bytes x) ∷ (below ++ items))
+-- a name comes before that of each item, by the bytes
+abbrev pub ComesBefore : List ℕ → List Item → Type 0
+ComesBefore name [] = Unit {0}
+ComesBefore name (item ∷ items) = (slice_cmp nat_cmp name item.name ≡ Less) × ComesBefore name items
 
--- the items of what is in x, and of all below
-pub record IsBelow (s : FolderState) (x : ℕ) (items : List Item) : Type 0 where
-  pub keys : List ℕ
-  pub order : InOrder s.tree x keys
-  pub lists : Lists s keys items
+-- each name comes before those after it
+abbrev pub IsRising : List Item → Type 0
+IsRising [] = Unit {0}
+IsRising (item ∷ items) = ComesBefore item.name items × IsRising items
+
+-- each is the item of something that is in the folder x
+abbrev pub AreIn : FolderState → ℕ → List Item → Type 0
+AreIn s x [] = Unit {0}
+AreIn s x (item ∷ items) = IsItem s item × (item.parent.0 ≡ x) × AreIn s x items
+
+-- these are the items of what is in the folder x itself, in the order of the names
+pub record AreInside (s : FolderState) (x : ℕ) (items : List Item) : Type 0 where
+  pub each : AreIn s x items
+  pub all : (y : ℕ) (n : Node) → get s.tree y ≡ Some n → n.place.parent.0 ≡ x → HasKey items y
+  pub rising : IsRising items
+
+-- the items of the first list, each with those of what is below it behind it
+pub data Unfolds (s : FolderState) : List Item → List Item → Type 0 where
+  none : Unfolds s [] []
+  next : (item : Item) (inside items below rest : List Item) → AreInside s item.key.0 inside → Unfolds s inside below → Unfolds s items rest
+      → Unfolds s (item ∷ items) (item ∷ (below ++ rest))
+
+-- the items of what is below x
+pub record AreBelow (s : FolderState) (x : ℕ) (items : List Item) : Type 0 where
+  pub top : List Item
+  pub inside : AreInside s x top
+  pub unfolds : Unfolds s top items
 
 abbrev pub IsListing : FolderState → List Item → Type 0
-IsListing s items = IsBelow s 0 items
+IsListing s items = AreBelow s 0 items
+
+-- a folder has one listing
+abbrev pub OneListing : Type 0
+OneListing = (s : FolderState) (items others : List Item) → IsListing s items → IsListing s others → items ≡ others

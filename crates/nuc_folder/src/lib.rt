@@ -1,6 +1,7 @@
 //! A client's folder: what it holds, how it answers who reads and changes it, and what a user does in it.
 #![tactic(auto)]
 
+mod changing;
 mod flat_edit;
 mod flat_file;
 mod flat_folder;
@@ -10,7 +11,10 @@ mod folder;
 mod item;
 mod key_place;
 mod listed;
+mod making;
+mod mem_folder;
 mod noticed;
+mod notices;
 mod outcome;
 mod ran;
 mod read_back;
@@ -26,6 +30,7 @@ pub use folder::Folder;
 pub use item::{Item, Key, RawName};
 pub use key_place::KeyPlace;
 pub use listed::{Listed, MOST_ITEMS};
+pub use mem_folder::MemFolder;
 pub use noticed::Noticed;
 pub use outcome::Outcome;
 pub use ran::RanOp;
