@@ -1,6 +1,8 @@
-mod UserChanges
 pub mod Formed
 pub mod Inserts
+pub mod Keyed
 pub mod NamesTold
 pub mod Refilled
+mod UserChanges
+mod UserKeys
 pub mod Written

@@ -21,6 +21,7 @@ mod read_back;
 mod seen;
 #[cfg(test)]
 mod tests;
+mod user;
 mod user_change;
 mod user_edit;
 
