@@ -7,5 +7,7 @@ pub mod ListedKeys
 pub mod NamesTold
 pub mod Refilled
 pub mod Unfolding
+pub mod UserChanges
+pub mod UserKeys
 pub mod Walk
 pub mod Written

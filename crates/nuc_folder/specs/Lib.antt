@@ -9,3 +9,4 @@ pub mod Memory
 pub mod Outcome
 pub mod Pending
 pub mod State
+pub mod UserEdits

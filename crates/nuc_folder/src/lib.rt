@@ -23,6 +23,9 @@ mod read_back;
 mod seen;
 #[cfg(test)]
 mod tests;
+mod user;
+mod user_change;
+mod user_edit;
 
 pub use flat_edit::{FlatEdit, FlatReply};
 pub use flat_folder::FlatFolder;
@@ -36,3 +39,4 @@ pub use outcome::Outcome;
 pub use ran::RanOp;
 pub use read_back::ReadBack;
 pub use seen::Seen;
+pub use user_edit::{UserEdit, UserReply};
