@@ -1,8 +1,13 @@
+pub mod ByName
 pub mod Formed
+pub mod Found
 pub mod Inserts
 pub mod Keyed
+pub mod ListedKeys
 pub mod NamesTold
 pub mod Refilled
-mod UserChanges
-mod UserKeys
+pub mod Unfolding
+pub mod UserChanges
+pub mod UserKeys
+pub mod Walk
 pub mod Written

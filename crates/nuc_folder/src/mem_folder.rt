@@ -1,12 +1,17 @@
-ghost use Rattle.std.specs.Prelude.{◌≡◌, ◌<◌, ◌+◌, [], ◌∷◌, ◌++◌, drop, IfOk, OnOk, OnErr};
+ghost use Rattle.std.specs.Prelude.{◌≡◌, ◌<◌, ◌≤◌, ◌+◌, [], ◌∷◌, ◌++◌, drop, IsTrue, Some, IfOk, OnOk, OnErr};
 ghost use Rattle.nuc_io.specs.Calls.{after_call, is_to_fail};
-ghost use Rattle.nuc_folder.specs.Memory.{IsKeyed, empty_state};
+ghost use Rattle.nuc_io.specs.Causes.{Rose};
+ghost use Rattle.nuc_folder.specs.Listing.{IsListing};
+ghost use Rattle.nuc_folder.specs.Memory.{empty_state};
 ghost use Rattle.nuc_folder.specs.Pending.{oldest};
+ghost use Rattle.nuc_folder.specs.State.{IsTold};
 
-use crate::Noticed;
+use crate::listing::listing;
 use crate::notices::Notices;
+use crate::{Item, Noticed};
 use nuc_io::Calls;
 use nuc_shelf::Shelf;
+use sqlite_items::Items;
 use std::alloc::{AllocError, Global};
 use std::marker::Model;
 
@@ -66,6 +71,13 @@ impl MemFolder {
         self.calls.fail_at(k)
     }
 
+    /// The folder's listing. This counts as no call of the trait, and nothing is less pending for it.
+    pub fn items(&self, alloc: Global) -> Result<Items<Item>, AllocError>
+        ensures { IfOk result (λ items. IsListing self.now.now.held items) }
+    {
+        listing(&self.shelf, alloc)
+    }
+
     /// Takes the oldest change by the user that nobody was told since the last listing; none where nothing is left.
     pub fn pending(&mut self, alloc: Global) -> Result<Option<Noticed>, AllocError>
         ensures oldest { IfOk result (λ taken. taken ≡ oldest self.old.now.pending) }
@@ -98,6 +110,9 @@ impl MemFolder {
     pub(crate) fn fails(&mut self) -> bool
         ensures value { result ≡ is_to_fail self.old.calls }
         ensures after { self.new ≡ record self.old { calls = after_call self.old.calls (is_to_fail self.old.calls) } }
+        ensures later { self.old.calls.faults ≤ self.new.calls.faults }
+        ensures rose { IsTrue result → Rose self.old.calls.faults self.new.calls.faults }
+        ensures form { IsTold self.new.now.next (Some self.new.now.held) }
     {
         let fails = self.calls.begin();
         if fails {
