@@ -11,3 +11,4 @@ pub mod UserChanges
 pub mod UserKeys
 pub mod Walk
 pub mod Written
+mod Removing

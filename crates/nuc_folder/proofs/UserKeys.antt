@@ -42,6 +42,7 @@ does_below (edit.Move from to) n s notice t below (x, k, place, finds, free, apa
     told_below n n notice _ t _ refl told is (changed_below n x s.tree (placed place) (get s.tree x) refl below)
 does_below (edit.Bit path bit) n s notice t below (x, k, finds, file, is, told) =
     told_below n n notice _ t _ refl told is (changed_below n x s.tree (with_bit bit) (get s.tree x) refl below)
+does_below (edit.Remove path) n s notice t below none = absurd none
 
 next_some : (notice : Noticed) (n : ℕ) → n ≤ next_after notice n
 next_some (noticed.Made item) n = omega arith

@@ -1,6 +1,6 @@
 -- What one change by a user makes of what a folder holds, or why it is refused. Each leads from the first state to the
 -- last, and the notice tells of it.
-use Rattle.std.specs.Prelude.{◌≡◌, ◌⊎◌, ◌+◌, ℕ, Bool, false, List, [], ◌∷◌, ◌++◌, None, Some}
+use Rattle.std.specs.Prelude.{◌≡◌, ◌⊎◌, ◌+◌, ℕ, Bool, false, List, None, Some}
 use Rattle.std.specs.FinMap.{get}
 use Rattle.nuc_base.specs.SamePlace.{SamePlace}
 use Rattle.nuc_base.specs.Trees.{Nodes, IsUnder, IsVacant}
@@ -12,7 +12,6 @@ use Rattle.nuc_hash.specs.Filling.{filling_bytes}
 use Rattle.nuc_paths.specs.Paths.{LeadsNowhere, LeadsTo}
 use Rattle.nuc_shelf.specs.Shelf.{ShelfState, file_at, folder_at, marked, moved, refilled, with_file, with_folder}
 use Rattle.nuc_folder.specs.Listing.{item_of}
-use Rattle.nuc_folder.specs.Memory.{MemState}
 use Rattle.nuc_folder.specs.declared.key_place.KeyPlace.{KeyPlace}
 use Rattle.nuc_folder.specs.declared.noticed.Noticed.{Noticed}
 use Rattle.nuc_folder.specs.declared.noticed.Noticed.TheVariants as noticed
@@ -101,13 +100,28 @@ BitRefused m names reply.Kind = FindsFolder m names
 BitRefused m names reply.Memory = Unit {0}
 BitRefused m names answer = ⊥
 
+-- REMOVING
+abbrev pub RemoveRefused : Nodes → List (List ℕ) → UserReply → Type 0
+RemoveRefused m names reply.NoSuch = FindsNobody m names
+RemoveRefused m names reply.Memory = Unit {0}
+RemoveRefused m names answer = ⊥
+
 -- EDITS
+-- an edit is one change: all are but a removal
+abbrev pub IsOneChange : UserEdit → Type 0
+IsOneChange (edit.Mkdir path) = Unit {0}
+IsOneChange (edit.Write path filling) = Unit {0}
+IsOneChange (edit.Move from to) = Unit {0}
+IsOneChange (edit.Bit path bit) = Unit {0}
+IsOneChange (edit.Remove path) = ⊥
+
 -- what an edit makes in one change; what is new gets the key
 abbrev pub Does : UserEdit → ℕ → ShelfState → Noticed → ShelfState → Type 0
 Does (edit.Mkdir path) key s notice t = MakesFolder key s path.names notice t
 Does (edit.Write path filling) key s notice t = Writes key s path.names (filling_bytes filling) notice t
 Does (edit.Move from to) key s notice t = Moves s from.names to.names notice t
 Does (edit.Bit path bit) key s notice t = SetsBit s path.names bit notice t
+Does (edit.Remove path) key s notice t = ⊥
 
 -- why it is refused
 abbrev pub Refused : UserEdit → Nodes → UserReply → Type 0
@@ -115,6 +129,7 @@ Refused (edit.Mkdir path) m answer = MakeRefused m path.names answer
 Refused (edit.Write path filling) m answer = WriteRefused m path.names answer
 Refused (edit.Move from to) m answer = MoveRefused m from.names to.names answer
 Refused (edit.Bit path bit) m answer = BitRefused m path.names answer
+Refused (edit.Remove path) m answer = RemoveRefused m path.names answer
 
 -- the key of what is new next, after one that the notice tells of
 abbrev pub next_after : Noticed → ℕ → ℕ
@@ -123,14 +138,3 @@ next_after (noticed.Written key content) n = n
 next_after (noticed.Moved key place) n = n
 next_after (noticed.Removed key) n = n
 next_after (noticed.Bit key bit) n = n
-
--- how an edit is answered, of what a folder is before, and what it is then: what was done is the newest that is pending
-abbrev pub UserAnswers : UserEdit → MemState → UserReply → MemState → Type 0
-UserAnswers e s reply.Ok t = (notice : Noticed) × Does e s.next s.held notice t.held
-    × (t.next ≡ next_after notice s.next) × (t.pending ≡ s.pending ++ notice ∷ [])
-UserAnswers e s reply.NoSuch t = Refused e s.held.tree reply.NoSuch × (t ≡ s)
-UserAnswers e s reply.NoParent t = Refused e s.held.tree reply.NoParent × (t ≡ s)
-UserAnswers e s reply.Kind t = Refused e s.held.tree reply.Kind × (t ≡ s)
-UserAnswers e s reply.Taken t = Refused e s.held.tree reply.Taken × (t ≡ s)
-UserAnswers e s reply.Cycle t = Refused e s.held.tree reply.Cycle × (t ≡ s)
-UserAnswers e s reply.Memory t = Refused e s.held.tree reply.Memory × (t ≡ s)

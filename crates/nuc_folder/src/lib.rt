@@ -20,6 +20,7 @@ mod notices;
 mod outcome;
 mod ran;
 mod read_back;
+mod removal;
 mod seen;
 #[cfg(test)]
 mod tests;

@@ -171,7 +171,7 @@ pub(crate) fn set_bit(
 }
 
 /// To whom a path leads.
-fn find<'a, T: TreeLike>(tree: &'a T, path: &Path) -> Option<(NodeId, &'a Node)>
+pub(crate) fn find<'a, T: TreeLike>(tree: &'a T, path: &Path) -> Option<(NodeId, &'a Node)>
     requires { WellFormed (T.nodes tree.now) }
     ensures { MatchOption result
         (FindsNobody (T.nodes tree.now) path.now.names)

@@ -13,6 +13,8 @@ pub enum UserEdit {
     Write(Path, Filling),
     /// Moves what is at the first path to the second, with all that is below it.
     Move(Path, Path),
+    /// Removes what is there, with all that is below it.
+    Remove(Path),
     /// Says whether a file may be executed.
     Bit(Path, bool),
 }
@@ -32,6 +34,7 @@ impl UserEdit {
                 let from = from.copy(alloc)?;
                 Ok(UserEdit::Move(from, to.copy(alloc)?))
             }
+            UserEdit::Remove(path) => Ok(UserEdit::Remove(path.copy(alloc)?)),
             UserEdit::Bit(path, bit) => Ok(UserEdit::Bit(path.copy(alloc)?, *bit)),
         }
     }

@@ -1,7 +1,7 @@
 use Rattle.std.proofs.Common.{◌∙◌}
 use Rattle.nuc_folder.specs.Memory.{MemState}
 use Rattle.nuc_folder.proofs.UserKeys.{keyed_after, keyed_at}
-use Rattle.nuc_folder.proofs.mem_folder.MemFolder.user.Goals as goal
+use Rattle.nuc_folder.proofs.mem_folder.MemFolder.change_once.Goals as goal
 
 pub invariant_of-self-in-Ok : goal.invariant_of-self-in-Ok
 invariant_of-self-in-Ok c =
