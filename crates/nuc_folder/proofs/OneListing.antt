@@ -36,12 +36,13 @@ Rising (i ∷ items) = ((a : Item) → Has items a → IsBefore i a) × Rising i
 
 rising_of : (items : List Item) → AllPairs IsBefore items → Rising items
 rising_of [] rising = tt
-rising_of (i ∷ items) rising =
-    (λ a there.
-    let row = find_at items a there in
-    let below = row.1 in
-    subst (IsBefore i) (row.2 i) (rising 0 (suc row.0) i (omega arith) (omega (arith, below))),
-    rising_of items (λ p q d less below. rising (suc p) (suc q) d (omega (arith, less)) (omega (arith, below))))
+rising_of (i ∷ items) rising = (
+  λ a there.
+      let row = find_at items a there in
+      let below = row.1 in
+      subst (IsBefore i) (row.2 i) (rising 0 (suc row.0) i (omega arith) (omega (arith, below))),
+  rising_of items (λ p q d less below. rising (suc p) (suc q) d (omega (arith, less)) (omega (arith, below))),
+)
 
 not_both_ways : (r q : Ordering) → r ≡ ordering_reverse q → r ≡ Less → q ≡ Less → ⊥
 not_both_ways r q e f g = let clash : Less ≡ Greater = sym f ∙ e ∙ ap ordering_reverse g in cc
