@@ -5,6 +5,7 @@ pub mod Inserts
 pub mod Keyed
 pub mod ListedKeys
 pub mod NamesTold
+pub mod OneListing
 pub mod Refilled
 pub mod Unfolding
 pub mod UserChanges

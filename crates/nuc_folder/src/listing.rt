@@ -66,11 +66,11 @@ fn inside(shelf: &Shelf, alloc: Global, key: Key) -> Result<Vec<Item>, AllocErro
     ensures { IfOk result (λ items. AreInside shelf.now.now key.0 items.items) }
 {
     let mut items = found(shelf, alloc, key)?;
-    items.sort_by(|a: &Item, b: &Item| -> Ordering
-        ensures { result ≡ slice_cmp nat_cmp a.now.name b.now.name }
-    {
-        a.name.as_slice().cmp(b.name.as_slice())
-    })?;
+    items.sort_by(
+        |a: &Item, b: &Item| -> Ordering
+            ensures { result ≡ slice_cmp nat_cmp a.now.name b.now.name }
+        { a.name.as_slice().cmp(b.name.as_slice()) },
+    )?;
     Ok(items)
 }
 
