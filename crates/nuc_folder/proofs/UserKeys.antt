@@ -1,18 +1,21 @@
 -- The keys of a folder in memory stay below the next one when a user changes it.
-use Rattle.std.proofs.Common.{◌≡◌, ◌<◌, ◌≤◌, ◌+◌, ℕ, false, List, Option, Some, None, refl, sym, subst, inl, inr, arith}
+use Rattle.std.proofs.Common.{Result, Ok, Err, OnOk, OnErr, reverse, ◌++◌, ◌≡◌, ◌<◌, ◌≤◌, ◌+◌, ℕ, false, List, Option, Some, None, refl, sym, subst, inl, inr, arith}
 use Rattle.std.specs.FinMap.{get, insert}
 use Rattle.nuc_base.specs.Trees.{Nodes}
 use Rattle.nuc_base.specs.declared.node.Node.{Node}
 use Rattle.nuc_base.proofs.Maps.{after_put}
 use Rattle.nuc_shelf.specs.Shelf.{ShelfState, IsShelf, changed, file_at, folder_at, placed, with_bit}
 use Rattle.nuc_folder.specs.Memory.{IsKeyed, MemState}
+use Rattle.nuc_folder.specs.Removals.{Removes}
 use Rattle.nuc_folder.specs.State.{KeysBelow}
 use Rattle.nuc_folder.specs.UserEdits.{Does, next_after}
 use Rattle.nuc_folder.specs.declared.noticed.Noticed.{Noticed}
 use Rattle.nuc_folder.specs.declared.noticed.Noticed.TheVariants as noticed
 use Rattle.nuc_folder.specs.declared.user_edit.UserEdit.{UserEdit}
+use Rattle.nuc_folder.specs.declared.user_edit.UserReply.{UserReply}
 use Rattle.nuc_folder.specs.declared.user_edit.UserEdit.TheVariants as edit
 use Rattle.nuc_folder.proofs.Keyed.{TreeBelow}
+use Rattle.nuc_folder.proofs.Removing.{cut_below}
 
 new_below : (n : ℕ) (m : Nodes) (v : Node) → TreeBelow n m → TreeBelow (n + 1) (insert m n v)
 new_below n m v below = λ y k at. elim (after_put m n v y k at) [
@@ -67,3 +70,16 @@ keyed_at held then next pending told is was = record {
   below = subst (KeysBelow next) (sym is) was.below;
   some = was.some;
 }
+
+-- a removal leaves keys that were there, and where it fails all
+pub keyed_removed : (r : Result (Unit {0}) UserReply) (s t : ShelfState) (names : List (List ℕ)) (next : ℕ) (before pending : List Noticed)
+    → OnOk r ((told : List Noticed) × Removes s names told t × (pending ≡ before ++ told)) → OnErr r ((t ≡ s) × (pending ≡ before)) → IsShelf t
+    → IsKeyed (record { held = s; next = next; pending = before }) → IsKeyed (record { held = t; next = next; pending = pending })
+keyed_removed (Ok done) s t names next before pending (told, removes, is) err shelf was =
+    let (keys, finds, cut, notices) = removes in
+    record {
+      shelf = shelf;
+      below = subst (KeysBelow next) (sym cut) (cut_below next s (reverse keys) was.below);
+      some = was.some;
+    }
+keyed_removed (Err reply) s t names next before pending ok (same, is) shelf was = keyed_at s t next before pending same was

@@ -30,8 +30,6 @@ mod tests;
 mod user;
 mod user_change;
 mod user_edit;
-#[cfg(test)]
-mod user_tests;
 
 pub use flat_edit::{FlatEdit, FlatReply};
 pub use flat_folder::FlatFolder;
