@@ -1,5 +1,7 @@
 mod Apart
 mod Bound
-mod Inverse
 mod Grown
+mod InTurn
+mod Inverse
 mod Undoing
+mod Whose
