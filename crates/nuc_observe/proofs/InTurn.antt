@@ -16,7 +16,7 @@ module _ {X : Type 0} (own : X → Option ℕ) where
       ap (next_after_all own next) (take_more xs i x within ∙ ap (λ y. take i xs ++ y ∷ []) (sym is)) ∙ after_more next (take i xs) x
 
   module _ {A : Type 0} (gives : ℕ → X → List A) where
-    more : (next : ℕ) (xs : List X) (x : X)
+    pub more : (next : ℕ) (xs : List X) (x : X)
         → in_turn own gives next (xs ++ x ∷ []) ≡ in_turn own gives next xs ++ gives (unwrap_or (own x) (next_after_all own next xs)) x
     more next [] x = append-nil _
     more next (y ∷ ys) x =

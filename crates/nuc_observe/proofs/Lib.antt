@@ -1,5 +1,6 @@
 mod Apart
 mod Bound
+mod Distinct
 mod Grown
 mod InTurn
 mod Inverse

@@ -15,10 +15,12 @@ use Rattle.nuc_hash.specs.Content.{ContentData}
 use Rattle.nuc_lookup.specs.Rows.{Numbers, numbers_in}
 use Rattle.nuc_lookup.specs.declared.row.Row.{Row}
 use Rattle.nuc_observe.specs.Keys.{KeyMap}
-use Rattle.nuc_observe.specs.Listing.{kind_of}
+use Rattle.nuc_observe.specs.Listing.{kind_of, IsFirstBad}
 use Rattle.nuc_observe.specs.Turns.{in_turn, next_after_all}
 use Rattle.nuc_observe.specs.Versions.{has_hash, kept_version}
 use Rattle.nuc_observe.specs.declared.binding.Binding.{Binding}
+use Rattle.nuc_observe.specs.declared.observe_fault.ObserveFault.{ObserveFault}
+use Rattle.nuc_observe.specs.declared.observe_fault.ObserveFault.TheVariants as fault
 use Rattle.nuc_observe.specs.declared.observed_node.ObservedNode.{ObservedNode}
 
 -- WHOSE KEY IT IS
@@ -154,3 +156,8 @@ pub record IsObserved (b : Before) (items : List Item) (before : Counters) (node
       ++ deletions b (listed_ids b.keys before.next_id items) (next_ver_after_puts b before.next_ver items) (map.keys b.local)
   pub next_id_is : after.next_id ≡ next_id_after b.keys before.next_id items
   pub next_ver_is : after.next_ver ≡ next_ver_after_deletions b (listed_ids b.keys before.next_id items) (next_ver_after_puts b before.next_ver items) (map.keys b.local)
+
+-- why there is no new Local
+abbrev pub ObserveFaulty : KeyMap → Nodes → List Item → ObserveFault → Type 0
+ObserveFaulty keys l items (fault.BadListing number) = IsFirstBad keys l items (Some number)
+ObserveFaulty keys l items fault.Memory = Unit {0}

@@ -24,6 +24,7 @@ pub(crate) struct Gathered {
 }
 
 /// What there is before a scan, beside the listing.
+#[derive(Drop)]
 pub(crate) struct Known<'a, T> {
     pub(crate) keys: &'a Keys,
     pub(crate) remote: &'a T,
