@@ -90,10 +90,10 @@ module _ (s : FolderState) (x : ℕ) (form : WellFormed s.tree) (before after : 
     each = kept;
     all = all_there;
     rising = λ i j d less below.
-    let a = get_or after i d in
-    let b = get_or after j d in
-    let far : name_below b a ≡ false = sorted_far name_below (ranks_by nat_list_cmp_total (λ (i : Item). i.name)) after sorted i j d (omega (arith, less)) below in
-    less_of (slice_cmp nat_cmp a.name b.name) (slice_cmp nat_cmp b.name a.name) (nat_list_cmp_total.antisymm a.name b.name) far (λ equal.
-    others i j d less below (one_key s x a b form (kept i d (omega (arith, less, below))) (kept j d below)
-    (slice_cmp-IsAntisymmetric nat_cmp-IsAntisymmetric a.name b.name equal)));
+        let a = get_or after i d in
+        let b = get_or after j d in
+        let far : name_below b a ≡ false = sorted_far name_below (ranks_by nat_list_cmp_total (λ (i : Item). i.name)) after sorted i j d (omega (arith, less)) below in
+        less_of (slice_cmp nat_cmp a.name b.name) (slice_cmp nat_cmp b.name a.name) (nat_list_cmp_total.antisymm a.name b.name) far (λ equal.
+        others i j d less below (one_key s x a b form (kept i d (omega (arith, less, below))) (kept j d below)
+        (slice_cmp-IsAntisymmetric nat_cmp-IsAntisymmetric a.name b.name equal)));
   }

@@ -31,10 +31,11 @@ unfolds_more s top all item inside below (next other within tops under rest its 
 pub item_added : (s : FolderState) (top before now with_item after : List Item) (item : Item) → with_item ≡ now ++ item ∷ []
     → (below : List Item) × (now ≡ before ++ below) × Unfolds s top below → Adds s item.key.0 with_item after
     → (below : List Item) × (after ≡ before ++ below) × Unfolds s (top ++ item ∷ []) below
-item_added s top before now with_item after item pushed (all, so_far, unfolds) (below, grown, under) =
-    (all ++ item ∷ below,
-    grown ∙ ap (λ l. l ++ below) pushed ∙ append_assoc now (item ∷ []) below ∙ ap (λ l. l ++ item ∷ below) so_far ∙ append_assoc before all (item ∷ below),
-    unfolds_more s top all item under.top below unfolds under.inside under.unfolds)
+item_added s top before now with_item after item pushed (all, so_far, unfolds) (below, grown, under) = (
+  all ++ item ∷ below,
+  grown ∙ ap (λ l. l ++ below) pushed ∙ append_assoc now (item ∷ []) below ∙ ap (λ l. l ++ item ∷ below) so_far ∙ append_assoc before all (item ∷ below),
+  unfolds_more s top all item under.top below unfolds under.inside under.unfolds,
+)
 
 -- the next item is in the folder
 next_in : (s : FolderState) (x : ℕ) (done rest : List Item) (item : Item) → AreInside s x (done ++ item ∷ rest) → IsIn s x item

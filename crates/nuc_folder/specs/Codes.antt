@@ -57,8 +57,8 @@ noticed_code = code_by Parts
     parts_of of_parts parts_again
 
 abbrev pub notices_code : Coded NoticesState
-notices_code = code_by (List Noticed × List Noticed) (coded× (coded_list noticed_code) (coded_list noticed_code))
-    (λ s. (s.now, s.settled)) (λ t. record { now = t.0; settled = t.1 }) (λ _. refl)
+notices_code = code_by (List Noticed × (List Noticed × ℕ)) (coded× (coded_list noticed_code) (coded× (coded_list noticed_code) coded_ℕ))
+    (λ s. (s.now, (s.settled, s.room))) (λ t. record { now = t.0; settled = t.1.0; room = t.1.1 }) (λ _. refl)
 
 abbrev pub calls_code : Coded CallsData
 calls_code = code_by (ℕ × (List ℕ × ℕ)) (coded× coded_ℕ (coded× (coded_list coded_ℕ) coded_ℕ))

@@ -9,3 +9,6 @@ pub mod Memory
 pub mod Outcome
 pub mod Pending
 pub mod State
+pub mod Removals
+pub mod User
+pub mod UserEdits

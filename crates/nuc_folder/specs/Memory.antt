@@ -49,10 +49,11 @@ GivesKey outcome.Taken n after = after ≡ n
 GivesKey outcome.Failed n after = after ≡ n
 GivesKey outcome.Memory n after = after ≡ n
 
--- the notices of a folder, now and when it was last settled
+-- the notices of a folder, now and when it was last settled, and for how many more there is room
 pub record NoticesState : Type 0 where
   pub now : List Noticed
   pub settled : List Noticed
+  pub room : ℕ
 
 -- what is pending after a listing: nothing where one was made
 abbrev pub pending_after : Listed → List Noticed → List Noticed

@@ -3,7 +3,7 @@ ghost use Rattle.std.specs.List.{find};
 ghost use Rattle.std.specs.Option.{option_copied};
 
 use crate::flat_file::FlatFile;
-use crate::{Item, Key, ReadBack, FlatEdit, FlatReply};
+use crate::{FlatEdit, FlatReply, Item, Key, ReadBack};
 use nuc_base::Name;
 use sqlite_items::Items;
 use std::alloc::{AllocError, Global};

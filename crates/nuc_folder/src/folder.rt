@@ -67,13 +67,7 @@ pub trait Folder {
 
     /// Moves what stands at the expected place, with all that is below it. `Changed` is also answered where the new
     /// parent is no folder, is what is to be moved, or stands below that.
-    fn move_to(
-        &mut self,
-        alloc: Global,
-        key: Key,
-        expected: &KeyPlace,
-        place: &KeyPlace,
-    ) -> Outcome
+    fn move_to(&mut self, alloc: Global, key: Key, expected: &KeyPlace, place: &KeyPlace) -> Outcome
         ensures told { Told (λ old new. MoveAnswers key.0 (place_of expected.now) (place_of place.now) old result new) (told self.old) (told self.new) }
         ensures changes { Changes result (next self.old) (next self.new) }
         ensures form { IsTold (next self.new) (told self.new) }

@@ -10,25 +10,33 @@ mod flat_tests;
 mod folder;
 mod item;
 mod key_place;
+mod laws;
 mod listed;
 mod listing;
 mod making;
 mod mem_calls;
 mod mem_folder;
+#[cfg(test)]
+mod mem_tests;
 mod noticed;
 mod notices;
 mod outcome;
 mod ran;
 mod read_back;
+mod removal;
 mod seen;
 #[cfg(test)]
 mod tests;
+mod user;
+mod user_change;
+mod user_edit;
 
 pub use flat_edit::{FlatEdit, FlatReply};
 pub use flat_folder::FlatFolder;
 pub use folder::Folder;
 pub use item::{Item, Key, RawName};
 pub use key_place::KeyPlace;
+pub use laws::has_one_listing;
 pub use listed::{Listed, MOST_ITEMS};
 pub use mem_folder::MemFolder;
 pub use noticed::Noticed;
@@ -36,3 +44,4 @@ pub use outcome::Outcome;
 pub use ran::RanOp;
 pub use read_back::ReadBack;
 pub use seen::Seen;
+pub use user_edit::{UserEdit, UserReply};

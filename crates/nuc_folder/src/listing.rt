@@ -6,7 +6,7 @@ ghost use Rattle.std.specs.Ordering.{nat_cmp};
 ghost use Rattle.nuc_base.specs.Trees.{IsThere, Steps};
 ghost use Rattle.nuc_hash.specs.Content.{content_of};
 ghost use Rattle.nuc_shelf.specs.Shelf.{IsShelf};
-ghost use Rattle.nuc_folder.specs.Listing.{Adds, AreFound, AreInside, IsItemAt, IsListing};
+ghost use Rattle.nuc_folder.specs.Listing.{Adds, AreBelow, AreFound, AreInside, IsItemAt, IsListing};
 
 use crate::{Item, Key};
 use nuc_base::{NodeId, TreeLike};
@@ -23,6 +23,20 @@ pub(crate) fn listing(shelf: &Shelf, alloc: Global) -> Result<Items<Item>, Alloc
     let mut items = Items::new(alloc);
     let count = shelf.tree().len();
     push_below(shelf, alloc, Key(0), u128::from(count) + 1, &mut items)?;
+    Ok(items)
+}
+
+/// The items of what is below a key, as a listing has them.
+pub(crate) fn listing_below(
+    shelf: &Shelf,
+    alloc: Global,
+    key: Key,
+) -> Result<Items<Item>, AllocError>
+    ensures { IfOk result (λ items. AreBelow shelf.now.now key.0 items) }
+{
+    let mut items = Items::new(alloc);
+    let count = shelf.tree().len();
+    push_below(shelf, alloc, key, u128::from(count) + 1, &mut items)?;
     Ok(items)
 }
 
@@ -52,11 +66,11 @@ fn inside(shelf: &Shelf, alloc: Global, key: Key) -> Result<Vec<Item>, AllocErro
     ensures { IfOk result (λ items. AreInside shelf.now.now key.0 items.items) }
 {
     let mut items = found(shelf, alloc, key)?;
-    items.sort_by(|a: &Item, b: &Item| -> Ordering
-        ensures { result ≡ slice_cmp nat_cmp a.now.name b.now.name }
-    {
-        a.name.as_slice().cmp(b.name.as_slice())
-    })?;
+    items.sort_by(
+        |a: &Item, b: &Item| -> Ordering
+            ensures { result ≡ slice_cmp nat_cmp a.now.name b.now.name }
+        { a.name.as_slice().cmp(b.name.as_slice()) },
+    )?;
     Ok(items)
 }
 

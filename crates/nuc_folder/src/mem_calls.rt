@@ -102,7 +102,14 @@ impl Folder for MemFolder {
         let Some(next_key) = self.next_key.checked_add(1) else {
             return Outcome::Memory;
         };
-        let made = making::write_new(&mut self.shelf, alloc, Key(self.next_key), place, bytes, bit);
+        let made = making::write_new(
+            &mut self.shelf,
+            alloc,
+            Key(self.next_key),
+            place,
+            bytes,
+            bit,
+        );
         if made.is_success() {
             self.next_key = next_key;
         }

@@ -42,7 +42,7 @@ impl Model for MemFolder {
     } };
 
     ghost invariant = { λ f. IsKeyed (record { held = f.shelf.now; next = f.next_key; pending = f.notices.now })
-      × IsKeyed (record { held = f.shelf.settled; next = f.settled_key; pending = f.notices.settled }) };
+        × IsKeyed (record { held = f.shelf.settled; next = f.settled_key; pending = f.notices.settled }) };
 }
 
 impl MemFolder {

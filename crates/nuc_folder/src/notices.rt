@@ -1,4 +1,4 @@
-ghost use Rattle.std.specs.Prelude.{◌≡◌, [], ◌∷◌, ◌++◌, drop, OnOk, OnErr, IfOk};
+ghost use Rattle.std.specs.Prelude.{◌≡◌, ◌≤◌, ◌<◌, ◌+◌, [], ◌∷◌, ◌++◌, drop, OnOk, OnErr, IfOk};
 ghost use Rattle.nuc_folder.specs.Pending.{oldest};
 
 use crate::Noticed;
@@ -17,7 +17,7 @@ pub(crate) struct Notices {
 }
 
 impl Model for Notices {
-    ghost use Rattle.std.specs.Prelude.{◌≤◌, drop, take, vec_len};
+    ghost use Rattle.std.specs.Prelude.{◌≤◌, ◌-◌, drop, take, vec_capacity, vec_len};
     ghost use Rattle.nuc_folder.specs.Codes.{notices_code};
     ghost use Rattle.nuc_folder.specs.Memory.{NoticesState};
 
@@ -25,7 +25,7 @@ impl Model for Notices {
 
     ghost coded = { notices_code };
 
-    ghost view = { λ n. record { now = drop n.told n.list.items; settled = drop n.settled_told (take n.settled_len n.list.items) } };
+    ghost view = { λ n. record { now = drop n.told n.list.items; settled = drop n.settled_told (take n.settled_len n.list.items); room = vec_capacity n.list - vec_len n.list } };
 
     ghost invariant = { λ n. (n.told ≤ vec_len n.list) × (n.settled_len ≤ vec_len n.list) × (n.settled_told ≤ n.settled_len) };
 }
@@ -44,21 +44,23 @@ impl Notices {
         }
     }
 
-    /// Makes room for one more.
-    pub(crate) fn reserve(&mut self) -> Result<(), AllocError>
-        ensures { self.new ≡ self.old }
-    {
-        self.list.reserve(1)
-    }
-
-    /// Adds the newest.
-    pub(crate) fn push(&mut self, noticed: Noticed) -> Result<(), AllocError>
-        ensures ok { OnOk result (self.new.now ≡ self.old.now ++ noticed ∷ []) }
-        ensures err { OnErr result (self.new.now ≡ self.old.now) }
+    /// Makes room for that many more.
+    pub(crate) fn reserve(&mut self, more: u64) -> Result<(), AllocError>
+        ensures ok { OnOk result (more ≤ self.new.room) }
+        ensures now { self.new.now ≡ self.old.now }
         ensures settled { self.new.settled ≡ self.old.settled }
     {
-        self.list.push(noticed)?;
-        Ok(())
+        self.list.reserve(more as usize)
+    }
+
+    /// Adds the newest. It takes no memory.
+    pub(crate) fn push_reserved(&mut self, noticed: Noticed)
+        requires { 0 < self.old.room }
+        ensures now { self.new.now ≡ self.old.now ++ noticed ∷ [] }
+        ensures settled { self.new.settled ≡ self.old.settled }
+        ensures room { self.old.room ≤ self.new.room + 1 }
+    {
+        self.list.push_reserved(noticed);
     }
 
     /// Takes the oldest, if there is one.

@@ -1,5 +1,8 @@
 mod Apart
 mod Bound
-mod Inverse
+mod Distinct
 mod Grown
+mod InTurn
+mod Inverse
 mod Undoing
+mod Whose

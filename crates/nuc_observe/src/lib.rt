@@ -2,6 +2,9 @@
 #![tactic(auto)]
 
 mod binding;
+mod deletions;
+mod gather;
+mod identities;
 mod item_place;
 mod item_size;
 mod judge;
@@ -9,6 +12,10 @@ mod kept;
 mod keys;
 #[cfg(test)]
 mod listing_tests;
+mod observe;
+mod observe_fault;
+mod observed_node;
+mod scanned;
 mod seen;
 #[cfg(test)]
 mod tests;
@@ -17,4 +24,8 @@ pub use binding::Binding;
 pub use judge::first_bad;
 pub use item_size::MOST_BYTES;
 pub use kept::kept_version;
+pub use observe::observed;
+pub use observe_fault::ObserveFault;
+pub use observed_node::ObservedNode;
 pub use keys::{Keys, keys_are_one_to_one};
+pub use scanned::Observed;

@@ -5,3 +5,5 @@ pub mod InPlace
 pub mod Kept
 pub mod Laying
 pub mod Locals
+pub mod Paged
+mod Trials

@@ -5,8 +5,14 @@ mod ahead;
 mod apply;
 mod following;
 mod local;
+#[cfg(test)]
+mod local_tests;
 mod remote;
+#[cfg(test)]
+mod remote_tests;
 mod renaming;
+#[cfg(test)]
+mod trial;
 
 pub use following::{more_entries_keep_remotes, next_entries_follow, remotes_stay_at_a_revision};
 pub use local::Local;

@@ -16,4 +16,5 @@ mod ReadyPlans
 mod StaysReady
 mod Steady
 mod Swaps
+mod Trials
 mod Written

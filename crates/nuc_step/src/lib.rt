@@ -3,6 +3,8 @@
 
 mod answers;
 mod client;
+#[cfg(test)]
+mod client_tests;
 mod counts;
 mod event;
 mod landing;
@@ -16,6 +18,8 @@ mod reason;
 mod reply;
 #[cfg(test)]
 mod tests;
+#[cfg(test)]
+mod trial;
 mod view;
 
 pub use answers::{FlyReply, NoSuchOp, Planned, TakeFault};

@@ -21,5 +21,5 @@ pub loop-item-preserved : goal.loop-item-preserved
 loop-item-preserved t c = record {
   added = item_added _ _ _ _ _ _ c.in-Some.item c.in_ok-push.ensures.ok c.loop-item.invariant.added c.in_ok-push_below.ensures;
   inside = subst (AreInside c.args.shelf.now.now c.args.key.0) (sym (append_assoc c.loop-item.yielded (c.in-Some.item ∷ []) c.next.new.self.rest.items))
-  (subst (λ l. AreInside c.args.shelf.now.now c.args.key.0 (c.loop-item.yielded ++ l)) c.in-Some.ensures.steps.0 c.loop-item.invariant.inside);
+      (subst (λ l. AreInside c.args.shelf.now.now c.args.key.0 (c.loop-item.yielded ++ l)) c.in-Some.ensures.steps.0 c.loop-item.invariant.inside);
 }
