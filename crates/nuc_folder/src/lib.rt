@@ -16,8 +16,6 @@ mod listing;
 mod making;
 mod mem_calls;
 mod mem_folder;
-#[cfg(test)]
-mod mem_tests;
 mod noticed;
 mod notices;
 mod outcome;
