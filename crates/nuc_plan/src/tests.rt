@@ -322,6 +322,64 @@ fn a_content_and_a_bit_of_two_sides(rt: HostRuntime) -> Result<(), Fail> {
     )
 }
 
+/// A bit that one side alone has set comes to the other, and that is all that is done.
+#[test]
+fn a_bit_of_one_side(rt: HostRuntime) -> Result<(), Fail> {
+    let plain = [file(1, b"s", 1)];
+    let with_bit = [(1, 0, b"s".as_slice(), 1, true)];
+    come_together(
+        &rt,
+        rt.alloc(),
+        [&with_bit, &plain, &plain],
+        9,
+        &[(Case::Batch, &[(Verb::Down, 1)])],
+        &with_bit,
+    )?;
+    come_together(
+        &rt,
+        rt.alloc(),
+        [&plain, &with_bit, &plain],
+        9,
+        &[(Case::Batch, &[(Verb::Up, 1)])],
+        &with_bit,
+    )
+}
+
+/// Where both sides have another bit than before, they have the same, so nothing but a note is made of it.
+#[test]
+fn a_bit_of_both_sides(rt: HostRuntime) -> Result<(), Fail> {
+    let plain = [file(1, b"s", 1)];
+    let with_bit = [(1, 0, b"s".as_slice(), 1, true)];
+    come_together(
+        &rt,
+        rt.alloc(),
+        [&with_bit, &with_bit, &plain],
+        9,
+        &[(Case::Booked, &[(Verb::Down, 1)])],
+        &with_bit,
+    )
+}
+
+/// A conflicted copy has the bit that the folder's file had.
+#[test]
+fn a_copy_keeps_its_bit(rt: HostRuntime) -> Result<(), Fail> {
+    come_together(
+        &rt,
+        rt.alloc(),
+        [
+            &[file(1, b"f", 2)],
+            &[(1, 0, b"f", 3, true)],
+            &[file(1, b"f", 1)],
+        ],
+        2,
+        &[
+            (Case::Mend, &[(Verb::Split, 1)]),
+            (Case::Batch, &[(Verb::Down, 1), (Verb::Up, 2)]),
+        ],
+        &[file(1, b"f", 2), (2, 0, b"f (conflicted copy)", 3, true)],
+    )
+}
+
 /// The tree of this many files.
 fn files(alloc: Global, count: u8) -> Result<Tree, Fail>
     requires { count ≤ 60 }
