@@ -106,7 +106,7 @@ none_past m (s ∷ steps) none = cc
 abbrev with_laid : StockState → Laid → StockState
 with_laid s laid = record { laid = laid; numbers = s.numbers }
 
-stays : (m : Nodes) (steps : List Step) (s : StockState) → AreAway m steps s → (x : ℕ) (k : Node) → get s.laid x ≡ Some k → get (laid_first m steps s.laid) x ≡ Some k
+pub stays : (m : Nodes) (steps : List Step) (s : StockState) → AreAway m steps s → (x : ℕ) (k : Node) → get s.laid x ≡ Some k → get (laid_first m steps s.laid) x ≡ Some k
 stays m [] s away x k at = at
 stays m (u ∷ steps) s away x k at =
     stays (undone m u.undo) steps (with_laid s (laid_before m u s.laid)) away.1 x k (stays_one s u.number (get m (id_of u.undo)) away.0 x k at)

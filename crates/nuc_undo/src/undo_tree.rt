@@ -3,7 +3,7 @@ ghost use Rattle.std.specs.FinMap as map;
 ghost use Rattle.nuc_base.specs.Kinds.{FitsKind};
 ghost use Rattle.nuc_base.specs.Legal.{LegalPut, LegalCut};
 ghost use Rattle.nuc_base.specs.Trees.{WellFormed};
-ghost use Rattle.nuc_undo.specs.Laid.{AllFit, with_node};
+ghost use Rattle.nuc_undo.specs.Laid.{AllFit, StillLaid, with_node};
 ghost use Rattle.nuc_undo.specs.State.{settled_of};
 ghost use Rattle.nuc_undo.specs.Steps.{AllTakenBack, Changed, IsSettled, Keeps, KeepsTree, TakenBack};
 
@@ -71,6 +71,7 @@ impl<T: TreeLike> UndoTree<T> {
         ensures settled { WellFormed (settled_of self.now) }
         ensures fits { AllFit self.now.laid }
         ensures laid { self.now.past ≡ [] → self.now.laid_then ≡ self.now.laid }
+        ensures still { StillLaid self.now.laid self.now.laid_then }
     {
         &self.tree
     }
