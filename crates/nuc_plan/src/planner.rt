@@ -12,8 +12,8 @@ use std::alloc::{AllocError, Global};
 /// The plan of Remote, Local and Synced. A split takes `next` for its new identity, so that has to be a number which no
 /// identity of the trees has.
 ///
-/// It asks each identity for its wish, and where nothing is due once more for the mend. It copies the nodes that its
-/// operations name, and those of the operations that are due and for which a batch has no room.
+/// It asks each identity for its wish, and where nothing is due at most twice more for the mend. It copies the nodes that
+/// its operations name, and those of the operations that are due and for which a batch has no room.
 pub fn plan<T: TreeLike, H: Hashes>(
     alloc: Global,
     r: &T,

@@ -214,12 +214,12 @@ impl<T: TreeLike> Local<T> {
             .checked_add(3)
             .ok_or(AllocError)?;
         self.reserve(changes)?;
-        let Some(key) = self.keys.key_of(id) else {
+        let Some(held) = self.keys.key_of(id) else {
             unreachable!()
         };
         rename(&mut self.tree, id, to, node, nodes);
         cut_key(&mut self.keys, id);
-        put_key(&mut self.keys, to, key);
+        put_key(&mut self.keys, to, held);
         Ok(())
     }
 }
@@ -232,7 +232,7 @@ impl<T: TreeLike + Drop> Local<T> {
         &mut self,
         alloc: Global,
         tree: T,
-        keys: Keys,
+        mut keys: Keys,
         room: u64,
     ) -> Result<(), AllocError>
         requires form { WellFormed (T.nodes tree) }
@@ -248,7 +248,7 @@ impl<T: TreeLike + Drop> Local<T> {
         ensures err { OnErr result (KeepsLocal self.old self.new) }
         ensures err_laid { OnErr result (self.new.laid ≡ self.old.laid) }
     {
-        let (mut tree, mut keys) = (UndoTree::of(alloc, tree), keys);
+        let mut tree = UndoTree::of(alloc, tree);
         tree.reserve(room)?;
         keys.reserve(room)?;
         self.exchange(tree, keys);
@@ -256,7 +256,7 @@ impl<T: TreeLike + Drop> Local<T> {
     }
 
     /// The same for a tree and keys that are settled, with nothing laid by. It takes no memory.
-    fn exchange(&mut self, tree: UndoTree<T>, keys: Keys)
+    fn exchange(&mut self, mut tree: UndoTree<T>, mut keys: Keys)
         requires tree { tree.past ≡ [] }
         requires keys { keys.past ≡ [] }
         requires follow { HaveKeys tree.now keys.now }
@@ -268,14 +268,13 @@ impl<T: TreeLike + Drop> Local<T> {
         ensures spare { min tree.spare keys.spare ≤ self.new.spare }
         ensures spare_then { self.old.spare_then ≤ self.new.spare_then }
     {
-        let mut tree = tree;
         keys_are_one_to_one(&keys);
         let _laid = self.tree.tree();
-        self.tree.back();
-        self.keys.back();
+        mem::swap(&mut self.tree, &mut tree);
+        mem::swap(&mut self.keys, &mut keys);
+        tree.back();
+        keys.back();
         self.tree.swap_laid(&mut tree);
-        let tree = mem::replace(&mut self.tree, tree);
-        let keys = mem::replace(&mut self.keys, keys);
         if self.before.is_none() {
             self.before = Some(Earlier::of(tree, keys));
         }

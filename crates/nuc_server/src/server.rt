@@ -11,13 +11,13 @@ use crate::{Commit, CommitReply};
 use nuc_base::{NameRoom, Node, NodeId, TreeLike};
 use nuc_blocks::Store;
 use nuc_hash::Content;
+use nuc_index::IndexTree;
 use nuc_journal::{Entry, Journal};
-use nuc_tree::Tree;
 use std::alloc::{AllocError, Global};
 use std::marker::Model;
 
 /// The tree that the server keeps of its last revision. Callers see it as a `TreeLike`.
-pub type ServerTree = Tree;
+pub type ServerTree = IndexTree;
 
 /// The server: its journal, and the tree of the last revision.
 ///

@@ -1,2 +1,2 @@
 mod Bytes
-mod Shelves
+pub mod Shelves

@@ -1,7 +1,7 @@
 -- How an operation ends that was taken.
 use Rattle.std.specs.Prelude.{All, IsSomeAnd, MatchBool}
 use Rattle.std.specs.Option.{option_map}
-use Rattle.std.proofs.Common.{◌≡◌, ◌+◌, ◌≤◌, ◌++◌, ℕ, Bool, true, false, cond, List, length, Option, None, Some, refl, sym, ◌∙◌, ap, subst, arith}
+use Rattle.std.proofs.Common.{◌≡◌, ◌+◌, ◌≤◌, ℕ, Bool, true, false, cond, List, Option, None, Some, refl, sym, ap, subst}
 use Rattle.nuc_base.specs.Changes.{changed}
 use Rattle.nuc_base.specs.Trees.{Nodes, WellFormed}
 use Rattle.nuc_class.specs.declared.op.Op.{Op}
@@ -15,7 +15,7 @@ use Rattle.nuc_replica.specs.Local.{IsLocal, LocalState, LocalStates}
 use Rattle.nuc_replica.specs.Remote.{RemoteStates}
 use Rattle.nuc_step.specs.Client.{ClientState, ClientStates}
 use Rattle.nuc_step.specs.Sound.{AreLaid, ChangedOne, ChangedSynced, FitsStage, FitsTaken, IsFlight, IsKept, IsLaid, MayFly}
-use Rattle.nuc_step.specs.Steps.{CanLand, Ends, EndsAt, EndsOf, IsDone, LocalReady, SyncedReady, finished, landed, local_after, reason_of, with_adoptions}
+use Rattle.nuc_step.specs.Steps.{Ends, EndsAt, EndsOf, IsDone, LocalReady, SyncedReady, local_after, reason_of, with_adoptions}
 use Rattle.nuc_step.specs.declared.counts.Counts.{Counts}
 use Rattle.nuc_step.specs.declared.reason.Reason.TheVariants as reason
 use Rattle.nuc_step.specs.declared.reply.DoneReply.{DoneReply}

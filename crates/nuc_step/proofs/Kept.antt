@@ -1,10 +1,11 @@
 -- A client stays what it is, whatever a call makes of its parts.
 use Rattle.std.specs.Prelude.{◌*◌, All, IfSome, IsSomeAnd, MatchBool, SomeIff}
-use Rattle.std.proofs.Common.{◌≡◌, ◌≢◌, ◌<◌, ◌≤◌, ◌+◌, ◌++◌, ℕ, zero, suc, Bool, true, false, List, [], ◌∷◌, get_or, length, map, take, drop, Option, None, Some, refl, sym, ◌∙◌, ap, subst, arith}
+use Rattle.std.proofs.Common.{◌≡◌, ◌≢◌, ◌<◌, ◌≤◌, ◌+◌, ℕ, zero, suc, Bool, true, false, List, [], ◌∷◌, get_or, length, map, take, drop, Option, None, Some, refl, sym, ◌∙◌, ap, subst, inl, inr, arith}
 use Rattle.std.proofs.lemmas.List.{length-append, length-drop, length-map}
 use Rattle.std.proofs.lemmas.List.Elements.{All-map, All-nil, All-weaker}
 use Rattle.std.specs.FinMap.{get}
 use Rattle.nuc_base.specs.Trees.{Nodes, WellFormed}
+use Rattle.nuc_base.proofs.Maps.{same_or_not}
 use Rattle.nuc_base.specs.declared.change.Change.{Change}
 use Rattle.nuc_base.specs.declared.change.Change.TheVariants.{Keep, Put, Cut}
 use Rattle.nuc_class.specs.Due.{FitsOp}
@@ -19,9 +20,9 @@ use Rattle.nuc_replica.specs.Remote.{Agree, Follows, GoesOn, IsRemote, RemoteSta
 use Rattle.nuc_replica.proofs.Followed.{entry_by_entry, follows_first, follows_rest, no_entry, remote_with}
 use Rattle.nuc_replica.proofs.Heard.{goes_on_heard}
 use Rattle.nuc_step.specs.Calls.{MayBeTaken}
-use Rattle.nuc_step.specs.Client.{ClientState, state_now, state_then}
-use Rattle.nuc_step.specs.Launch.{IsFresh, LaidOver}
-use Rattle.nuc_step.specs.Sound.{AreLaid, AreNumbered, AreUntaken, CanCount, ChangedOne, ChangedSynced, FitsStage, FitsTaken, HasRoom, IsClient, IsFlight, IsKept, IsLaid, MayFly, known_to}
+use Rattle.nuc_step.specs.Client.{ClientState}
+use Rattle.nuc_step.specs.Launch.{IsFresh, LaidOne, LaidOver}
+use Rattle.nuc_step.specs.Sound.{AreLaid, AreNumbered, AreUntaken, ChangedOne, ChangedSynced, FitsStage, FitsTaken, IsClient, IsFlight, IsKept, IsLaid, MayFly, known_to}
 use Rattle.nuc_step.specs.Steps.{numbered}
 use Rattle.nuc_step.specs.declared.counts.Counts.{Counts}
 use Rattle.nuc_step.proofs.Flying.{all_numbered, all_staged, all_without, below_next, length_numbered, length_staged, length_without, number_of, numbered_staged, numbered_without, numbers_from, others_without, planned_numbers, flight_in}
@@ -364,5 +365,53 @@ kept_flying r l s fs c d ops b changes next ready kept =
       local_untaken = λ i above. kept.local_untaken i (omega (arith, above, next));
       synced_untaken = λ i above. kept.synced_untaken i (omega (arith, above, next));
       count = omega (arith, size, changes, ready.count);
+      count_then = kept.count_then;
+    }
+
+-- AN OPERATION TAKES PLACE AT ONCE, while nothing is in flight
+pub one_beyond : (n next : ℕ) (laid laid_then new new_then : Laid) → n ≡ next → LaidOne n laid laid_then new new_then → LaidBeyond next laid laid_then new new_then
+one_beyond n next laid laid_then new new_then is one = record {
+  before_then = λ k below. one.others_then k (λ same. absurd (omega (arith, below, same, is)));
+  fresh = λ k fresh. elim (same_or_not k n) [
+    | inl same ↦ subst (λ i. get new i ≡ get new_then i) (sym same) one.fresh
+    | inr apart ↦ one.others k apart ∙ fresh ∙ sym (one.others_then k apart)
+  ];
+}
+
+-- what it leaves of a part: what the part leads back to, and what is laid by under other numbers
+pub record LeavesLocal (n : ℕ) (s t : LocalStates) : Type 0 where
+  pub settled : t.settled ≡ s.settled
+  pub laid_then : t.laid_then ≡ s.laid_then
+  pub spare_then : s.spare_then ≤ t.spare_then
+  pub laid : (i : ℕ) → i ≢ n → get t.laid i ≡ get s.laid i
+
+pub record LeavesSynced (n : ℕ) (s t : UndoState) : Type 0 where
+  pub settled : settled_of t ≡ settled_of s
+  pub laid_then : t.laid_then ≡ s.laid_then
+  pub spare_then : s.spare + length s.past ≤ t.spare + length t.past
+  pub laid : (i : ℕ) → i ≢ n → get t.laid i ≡ get s.laid i
+
+pub kept_at_once : (r : RemoteStates) (l m : LocalStates) (s t : UndoState) (fs : FlightsState) (c b d : Counts) → fs.now ≡ []
+    → LeavesLocal c.next_op l m → LeavesSynced c.next_op s t → IsLocal m.now → WellFormed t.now → b.next_op ≡ c.next_op + 1 → b.changes < 18446744073709551616
+    → IsKept r l s fs c d → IsKept r m t fs b d
+kept_at_once r l m s t fs c b d none one two local synced next few kept =
+    let size : length fs.now ≡ 0 = ap (λ (gs : List Flight). length gs) none in
+    record {
+      now = record {
+        remote = kept.now.remote;
+        local = local;
+        synced = synced;
+        flights = kept.now.flights;
+        numbers = subst (λ gs. AreNumbered gs b.next_op) (sym none) tt;
+      };
+      settled = subst IsClient (same_then r.settled r.settled l.settled m.settled (settled_of s) (settled_of t) fs.settled d refl one.settled two.settled) kept.settled;
+      later = omega (arith, next, kept.later);
+      room = record { local = omega (arith, size); synced = omega (arith, size) };
+      room_then = record { local = omega (arith, one.spare_then, kept.room_then.local); synced = omega (arith, two.spare_then, kept.room_then.synced) };
+      laid = subst (All (AreLaid m.laid t.laid)) (sym none) (All-nil (AreLaid m.laid t.laid));
+      laid_then = subst (λ laid. All (AreLaid laid t.laid_then) fs.settled) (sym one.laid_then) (subst (λ laid. All (AreLaid l.laid_then laid) fs.settled) (sym two.laid_then) kept.laid_then);
+      local_untaken = λ i above. one.laid i (λ is. absurd (omega (arith, is, above, next))) ∙ kept.local_untaken i (omega (arith, above, next)) ∙ sym (ap (λ laid. get laid i) one.laid_then);
+      synced_untaken = λ i above. two.laid i (λ is. absurd (omega (arith, is, above, next))) ∙ kept.synced_untaken i (omega (arith, above, next)) ∙ sym (ap (λ laid. get laid i) two.laid_then);
+      count = omega (arith, size, few);
       count_then = kept.count_then;
     }

@@ -7,6 +7,8 @@ mod Keyed
 pub mod Landed
 pub mod Laying
 mod LocalAfter
+pub mod Notes
+pub mod Noticed
 mod Outcomes
 mod Ready
 mod ReadyPlans

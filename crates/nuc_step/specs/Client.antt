@@ -1,7 +1,6 @@
 -- A client, as a caller sees it.
-use Rattle.std.specs.Prelude.{◌==◌, ◌+◌, ℕ, cond, List, map, length, refl}
+use Rattle.std.specs.Prelude.{ℕ, List, refl}
 use Rattle.std.specs.Coded.{Coded, code_by, coded×, coded_ℕ, coded_list}
-use Rattle.std.specs.FinMap.{get}
 use Rattle.nuc_base.specs.Codes.{nodes_code}
 use Rattle.nuc_base.specs.Trees.{Nodes}
 use Rattle.nuc_flights.specs.Codes.{flight_code}

@@ -4,5 +4,6 @@ pub mod Holdings
 pub mod Launch
 pub mod Laws
 pub mod Order
+pub mod Planning
 pub mod Sound
 pub mod Steps

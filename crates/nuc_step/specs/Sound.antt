@@ -1,8 +1,7 @@
 -- What is always so of a client.
 use Rattle.std.specs.Prelude.{◌≡◌, ◌≢◌, ◌+◌, ◌*◌, ◌<◌, ◌≤◌, ℕ, Bool, true, false, All, List, [], ◌∷◌, length, Option, None, Some}
 use Rattle.std.specs.FinMap.{get}
-use Rattle.nuc_base.specs.Changes.{FitsChange}
-use Rattle.nuc_base.specs.Trees.{Nodes, WellFormed}
+use Rattle.nuc_base.specs.Trees.{WellFormed}
 use Rattle.nuc_base.specs.declared.change.Change.{Change}
 use Rattle.nuc_base.specs.declared.change.Change.TheVariants.{Keep, Put, Cut}
 use Rattle.nuc_base.specs.declared.node.Node.{Node}

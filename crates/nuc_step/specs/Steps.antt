@@ -1,5 +1,5 @@
 -- The steps of a client: what each call makes of its state. A Done may end in several ways, and each is a case.
-use Rattle.std.specs.Prelude.{◌≡◌, ◌+◌, ◌++◌, ◌==◌, ◌∷◌, [], ℕ, Bool, true, false, cond, List, map, length, Option, None, Some, IsSomeAnd}
+use Rattle.std.specs.Prelude.{◌≡◌, ◌+◌, ◌++◌, ◌∷◌, [], ℕ, Bool, true, false, cond, List, map, length, Option, None, Some}
 use Rattle.std.specs.FinMap.{get, insert, remove}
 use Rattle.nuc_base.specs.Changes.{IsLegal, changed}
 use Rattle.nuc_base.specs.Ready.{LegalInTurn, all_changed}

@@ -1,3 +1,4 @@
+use nuc_class::Op;
 use thiserror::Error;
 
 /// How a client answers operations that are to fly.
@@ -22,4 +23,19 @@ pub enum TakeFault {
     NoSuchOp,
     #[error("out of memory")]
     Memory,
+}
+
+/// What comes of asking a client for a plan. The operations are shown with their numbers, and a commit with its base.
+#[derive(Debug, Drop)]
+pub enum Planned {
+    /// Nothing is to be done: the three trees are equal.
+    Empty,
+    /// A record step, which has taken place.
+    Booked(Op),
+    /// Operations that are in flight now, and may be carried out in any order.
+    Batch(Vec<Op>),
+    /// What clears the way for others. It is in flight, or has taken place where it has no effect.
+    Mend(Op),
+    /// So many operations are in flight still.
+    Busy(u64),
 }

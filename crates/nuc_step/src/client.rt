@@ -34,11 +34,11 @@ use std::marker::Model;
 /// that it is about.
 #[derive(Drop)]
 pub struct Client<T: TreeLike> {
-    remote: Remote<T>,
-    local: Local<T>,
-    synced: UndoTree<T>,
-    flights: Flights,
-    counts: Counts,
+    pub(crate) remote: Remote<T>,
+    pub(crate) local: Local<T>,
+    pub(crate) synced: UndoTree<T>,
+    pub(crate) flights: Flights,
+    pub(crate) counts: Counts,
     /// What was counted at the last `settle`.
     settled_counts: Counts,
 }
@@ -161,7 +161,7 @@ impl<T: TreeLike> Client<T> {
         }
     }
 
-    fn launch(&mut self, alloc: Global, ops: Vec<Op>) -> Result<(), AllocError>
+    pub(crate) fn launch(&mut self, alloc: Global, ops: Vec<Op>) -> Result<(), AllocError>
         requires none { self.old.now.flights ≡ [] }
         requires may { All MayFly ops.items }
         ensures ok { OnOk result (self.new.now ≡ after_fly ops.items self.old.now) }
@@ -336,7 +336,7 @@ impl<T: TreeLike> Client<T> {
 }
 
 /// What is always so of the folder's tree and of Synced.
-fn trees_are_sound<T: TreeLike>(local: &Local<T>, synced: &UndoTree<T>)
+pub(crate) fn trees_are_sound<T: TreeLike>(local: &Local<T>, synced: &UndoTree<T>)
     ensures local { IsLocal local.now.now }
     ensures synced { WellFormed synced.now.now }
 {

@@ -1,4 +1,4 @@
-ghost use Rattle.std.specs.Prelude.{◌≡◌, ◌<◌, ◌++◌, ℕ, MatchBool, None, Some, IsTrue, false};
+ghost use Rattle.std.specs.Prelude.{◌≡◌, ◌<◌, ◌++◌, ℕ, MatchBool, None, Some, IsTrue, false, option_copied};
 ghost use Rattle.std.specs.FinMap as map;
 ghost use Rattle.std.specs.FinMap.{get};
 ghost use Rattle.nuc_base.specs.Changes.{IsLegal, changed};
@@ -64,7 +64,7 @@ pub(crate) fn land_in_folder<T: TreeLike>(
     {
         return false;
     }
-    adopt(edits, op);
+    adopt(edits, op.old_local.as_ref(), &op.local);
     write_local(local, op, outcome);
     write_synced(synced, op);
     true
@@ -141,13 +141,13 @@ fn is_key_free(keys: &Keys, outcome: Outcome) -> bool
     }
 }
 
-/// Adopts the version that a node of Local gives up into the one that it gets, where both have the same content.
-fn adopt(edits: &mut Edits, op: &Op)
+/// Adopts the version of a node of Local that gives way to another node into that one's, where both have the same content.
+pub(crate) fn adopt(edits: &mut Edits, old: Option<&Node>, new: &Change)
     requires { 0 < edits.old.spare }
-    ensures now { edits.new.now ≡ record edits.old.now { adoptions = edits.old.now.adoptions ++ adopted_by (same_hash edits.old.now.edits) op.now.old_local op.now.local } }
+    ensures now { edits.new.now ≡ record edits.old.now { adoptions = edits.old.now.adoptions ++ adopted_by (same_hash edits.old.now.edits) (option_copied old.entry) new.now } }
     ensures settled { edits.new.settled ≡ edits.old.settled }
 {
-    let (Some(old), Change::Put(new)) = (&op.old_local, &op.local) else {
+    let (Some(old), Change::Put(new)) = (old, new) else {
         return;
     };
     if adopts(old, new, edits) {

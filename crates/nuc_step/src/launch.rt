@@ -28,7 +28,7 @@ pub(crate) fn number_from<T: TreeLike>(first: u64, remote: &Remote<T>, ops: &mut
 }
 
 /// The revision that a commit takes for the current one of its identity; 0 for what isn't one.
-fn base_of<T: TreeLike>(remote: &Remote<T>, op: &Op) -> u64
+pub(crate) fn base_of<T: TreeLike>(remote: &Remote<T>, op: &Op) -> u64
     ensures { result ≡ base_of op.now.effect remote.now.now op.now.id.0 }
 {
     match op.effect {
@@ -57,7 +57,7 @@ pub(crate) fn lay_local<T: TreeLike>(
 }
 
 /// Lays a copy of the node by that a change of Local puts, where it puts one.
-fn lay_in_local<T: TreeLike>(
+pub(crate) fn lay_in_local<T: TreeLike>(
     alloc: Global,
     local: &mut Local<T>,
     number: u64,
@@ -98,7 +98,7 @@ pub(crate) fn lay_synced<T: TreeLike>(
 }
 
 /// Lays a copy of the node by that a change of Synced puts, where it puts one.
-fn lay_in_synced<T: TreeLike>(
+pub(crate) fn lay_in_synced<T: TreeLike>(
     alloc: Global,
     synced: &mut UndoTree<T>,
     number: u64,

@@ -9,14 +9,16 @@ mod landing;
 mod launch;
 mod laws;
 mod log;
+mod noting;
 mod order;
+mod planning;
 mod reason;
 mod reply;
 #[cfg(test)]
 mod tests;
 mod view;
 
-pub use answers::{FlyReply, NoSuchOp, TakeFault};
+pub use answers::{FlyReply, NoSuchOp, Planned, TakeFault};
 pub use client::Client;
 pub use event::Event;
 pub use laws::{

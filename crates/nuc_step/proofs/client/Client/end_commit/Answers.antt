@@ -1,8 +1,5 @@
-use Rattle.std.proofs.Common.{◌≡◌, Some, subst, sym, refl, arith}
-use Rattle.nuc_class.specs.declared.op.Op.{Op}
-use Rattle.nuc_flights.specs.Flights.{flight_of, taken_of}
+use Rattle.std.proofs.Common.{refl, arith}
 use Rattle.nuc_flights.specs.declared.taken.Taken.TheVariants as came
-use Rattle.nuc_step.specs.Client.{ClientStates}
 use Rattle.nuc_step.specs.Sound.{known_to}
 use Rattle.nuc_step.proofs.Ends.{ending_fits, ending_inside, ending_laid, ending_may, kept_ended}
 use Rattle.nuc_step.proofs.Kept.{kept_caught_up, same_one}

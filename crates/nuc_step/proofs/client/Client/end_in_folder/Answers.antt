@@ -1,13 +1,12 @@
 use Rattle.std.specs.Prelude.{MatchBool}
-use Rattle.std.proofs.Common.{◌≡◌, ◌≤◌, ◌+◌, ℕ, Some, true, ◌∙◌, ap, subst, sym, refl, arith}
-use Rattle.nuc_flights.specs.Flights.{flight_of, taken_of}
+use Rattle.std.proofs.Common.{◌≡◌, ◌≤◌, ◌+◌, ℕ, true, ◌∙◌, ap, subst, sym, refl, arith}
 use Rattle.nuc_flights.specs.declared.taken.Taken.TheVariants as came
 use Rattle.nuc_folder.specs.Outcome.{is_success}
 use Rattle.nuc_step.specs.Client.{ClientStates, state_now}
 use Rattle.nuc_step.specs.Sound.{IsKept, known_to}
 use Rattle.nuc_step.specs.Steps.{IsDone}
 use Rattle.nuc_step.specs.declared.counts.Counts.{Counts}
-use Rattle.nuc_step.proofs.Ends.{Finishes, LandsInFolder, ending_fits, ending_inside, ending_laid, ending_may, folder_ends, kept_ended}
+use Rattle.nuc_step.proofs.Ends.{Finishes, ending_fits, ending_inside, ending_laid, ending_may, folder_ends, kept_ended}
 use Rattle.nuc_step.proofs.client.Client.end_in_folder.Goals as goal
 use Rattle.nuc_step.proofs.client.Client.end_in_folder.Goals.{then-landed, else-landed}
 

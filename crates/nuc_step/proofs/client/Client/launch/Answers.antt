@@ -1,5 +1,5 @@
-use Rattle.std.specs.Prelude.{◌*◌, All}
-use Rattle.std.proofs.Common.{◌≡◌, ◌≤◌, ◌<◌, ◌+◌, ◌++◌, [], List, length, map, ◌∙◌, ap, refl, subst, sym, arith}
+use Rattle.std.specs.Prelude.{All}
+use Rattle.std.proofs.Common.{◌≡◌, ◌++◌, [], map, ◌∙◌, ap, refl, subst, sym, arith}
 use Rattle.nuc_class.specs.Due.{FitsOp}
 use Rattle.nuc_class.specs.declared.op.Op.{Op}
 use Rattle.nuc_flights.specs.Flights.{as_planned}

@@ -1,4 +1,4 @@
-use Rattle.std.proofs.Common.{subst, sym, take, ap}
+use Rattle.std.proofs.Common.{subst, sym, take}
 use Rattle.nuc_replica.specs.Remote.{Follows}
 use Rattle.nuc_step.specs.Client.{ClientStates}
 use Rattle.nuc_step.proofs.Kept.{front_follows, kept_pulled}

@@ -1,4 +1,4 @@
-use Rattle.std.proofs.Common.{IfSome, subst, sym, ap}
+use Rattle.std.proofs.Common.{IfSome, subst, sym}
 use Rattle.nuc_flights.specs.Flights.{flight_of}
 use Rattle.nuc_replica.specs.Remote.{Follows}
 use Rattle.nuc_step.specs.Calls.{MayBeTaken}
