@@ -66,6 +66,12 @@ no_keys m ks none no_key x =
     subst (λ (o : Option Node). HasKey o (get ks x)) (sym (ap (λ (n : Nodes). get n x) none ∙ get-empty nat_cmp x))
     (subst (λ (o : Option ℕ). HasKey None o) (sym (ap (λ (n : KeyMap). get n x) no_key ∙ get-empty nat_cmp x)) tt)
 
+-- the first to come has a key
+pub first_key : (m : Nodes) (ks : KeyMap) (x k : ℕ) (n : Node) → m ≡ insert empty x n → ks ≡ insert empty x k → HaveKeys m ks
+first_key m ks x k n is key =
+    subst (λ (j : Nodes). HaveKeys j ks) (sym is)
+    (subst (λ (j : KeyMap). HaveKeys (insert empty x n) j) (sym key) (keys_with empty empty x k (Some n) (λ _. Unit {0}) tt (no_keys empty empty refl refl)))
+
 -- x comes with a key, and another goes with its own
 moved : (ks : KeyMap) (x z k : ℕ) → x ≢ z → remove (insert ks z k) x ≡ insert (remove ks x) z k
 moved ks x z k apart = numbers.same_numbers _ _ (λ y. elim (same_or_not y x) [
@@ -111,7 +117,7 @@ module _ (u : UndoState) (ks : UndoLookupState) (before : Option EarlierState) (
       → keys.settled_of js ≡ keys.settled_of ks → AreLocal (locals_of t js before)
   sound t js form are have tree key = record {
     now = record { form = form; keys = are; follow = have };
-    settled = (let same : locals_of t js before .settled ≡ locals_of u ks before .settled = λ i. settled_by before (record { tree = tree i; keys = key i }) in
+    settled = (let same : (locals_of t js before).settled ≡ (locals_of u ks before).settled = λ i. settled_by before (record { tree = tree i; keys = key i }) in
         subst IsLocal (sym same) was.settled);
   }
 

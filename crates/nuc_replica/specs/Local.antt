@@ -87,9 +87,9 @@ pub record IsLocal (s : LocalState) : Type 0 where
   pub follow : HaveKeys s.tree s.keys
 
 -- a tree and keys that are settled
-pub record IsEarlier (tree : UndoState) (ks : UndoLookupState) : Type 0 where
-  pub sound : IsLocal (record { tree = tree.now; keys = ks.now })
-  pub tree : tree.past ≡ []
+pub record IsEarlier (u : UndoState) (ks : UndoLookupState) : Type 0 where
+  pub sound : IsLocal (record { tree = u.now; keys = ks.now })
+  pub tree : u.past ≡ []
   pub keys : ks.past ≡ []
 
 pub record AreLocal (s : LocalStates) : Type 0 where

@@ -274,7 +274,7 @@ impl<T: TreeLike + Drop> Local<T> {
         mem::swap(&mut self.keys, &mut keys);
         tree.back();
         keys.back();
-        self.tree.swap_laid(&mut tree);
+        tree.swap_laid(&mut self.tree);
         if self.before.is_none() {
             self.before = Some(Earlier::of(tree, keys));
         }
