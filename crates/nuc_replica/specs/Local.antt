@@ -1,5 +1,5 @@
 -- The folder as a client last observed it, and which key of the folder each identity has.
-use Rattle.std.specs.Prelude.{◌≡◌, ◌+◌, ◌≤◌, ℕ, length, min, Option, None, Some, refl}
+use Rattle.std.specs.Prelude.{◌≡◌, ◌+◌, ◌≤◌, ℕ, [], length, min, Option, None, Some, refl}
 use Rattle.std.specs.Coded.{Coded, code_by, coded×, coded_ℕ}
 use Rattle.std.specs.FinMap.{get, insert, remove}
 use Rattle.nuc_base.specs.Codes.{nodes_code}
@@ -37,14 +37,37 @@ locals_code = code_by (LocalState × (LocalState × (Laid × (Laid × (ℕ × �
     (λ t. record { now = t.0; settled = t.1.0; laid = t.1.1.0; laid_then = t.1.1.1.0; spare = t.1.1.1.1.0; spare_then = t.1.1.1.1.1 })
     (λ _. refl)
 
-abbrev pub locals_of : UndoState → UndoLookupState → LocalStates
-locals_of tree ks = record {
+-- what there was at the last settling, where all was replaced since, and how many changes of that need no memory
+pub record EarlierState : Type 0 where
+  pub now : LocalState
+  pub spare : ℕ
+
+abbrev pub earlier_code : Coded EarlierState
+earlier_code = code_by (LocalState × ℕ) (coded× local_code coded_ℕ) (λ e. (e.now, e.spare)) (λ t. record { now = t.0; spare = t.1 }) (λ _. refl)
+
+abbrev pub earlier_of : UndoState → UndoLookupState → EarlierState
+earlier_of tree ks = record {
   now = record { tree = tree.now; keys = ks.now };
-  settled = record { tree = undo.settled_of tree; keys = keys.settled_of ks };
+  spare = min tree.spare ks.spare;
+}
+
+-- what taking back leads to: what was replaced, if anything was
+abbrev pub settled_by : Option EarlierState → LocalState → LocalState
+settled_by None settled = settled
+settled_by (Some e) settled = e.now
+
+abbrev pub spare_by : Option EarlierState → ℕ → ℕ
+spare_by None spare = spare
+spare_by (Some e) spare = e.spare
+
+abbrev pub locals_of : UndoState → UndoLookupState → Option EarlierState → LocalStates
+locals_of tree ks before = record {
+  now = record { tree = tree.now; keys = ks.now };
+  settled = settled_by before (record { tree = undo.settled_of tree; keys = keys.settled_of ks });
   laid = tree.laid;
   laid_then = tree.laid_then;
   spare = min tree.spare ks.spare;
-  spare_then = min (tree.spare + length tree.past) (ks.spare + length ks.past);
+  spare_then = spare_by before (min (tree.spare + length tree.past) (ks.spare + length ks.past));
 }
 
 -- what is there has a key, and nothing else has one
@@ -62,6 +85,12 @@ pub record IsLocal (s : LocalState) : Type 0 where
   pub form : WellFormed s.tree
   pub keys : AreKeys s.keys
   pub follow : HaveKeys s.tree s.keys
+
+-- a tree and keys that are settled
+pub record IsEarlier (u : UndoState) (ks : UndoLookupState) : Type 0 where
+  pub sound : IsLocal (record { tree = u.now; keys = ks.now })
+  pub tree : u.past ≡ []
+  pub keys : ks.past ≡ []
 
 pub record AreLocal (s : LocalStates) : Type 0 where
   pub now : IsLocal s.now

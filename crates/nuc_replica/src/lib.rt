@@ -3,6 +3,7 @@
 
 mod ahead;
 mod apply;
+mod earlier;
 mod following;
 mod local;
 #[cfg(test)]

@@ -1,4 +1,4 @@
-ghost use Rattle.std.specs.Prelude.{◌≡◌, ◌≢◌, ◌≤◌, ◌<◌, ◌+◌, [], ℕ, None, Some, IsSomeAnd, OnOk, OnErr};
+ghost use Rattle.std.specs.Prelude.{◌≡◌, ◌≢◌, ◌≤◌, ◌<◌, ◌+◌, [], ℕ, min, None, Some, IsSomeAnd, OnOk, OnErr};
 ghost use Rattle.std.specs.FinMap as map;
 ghost use Rattle.nuc_base.specs.Kinds.{FitsKind};
 ghost use Rattle.nuc_base.specs.Legal.{LegalPut, LegalCut};
@@ -7,8 +7,9 @@ ghost use Rattle.nuc_base.specs.Trees.{IsThere, WellFormed};
 ghost use Rattle.nuc_observe.specs.Keys.{AreKeys, HasAlone, IsUnheld};
 ghost use Rattle.nuc_replica.specs.Local.{AreLocal, ChangedKeys, ChangedLocal, HaveKeys, KeepsLocal, handed_over, moved_key};
 ghost use Rattle.nuc_replica.specs.Renaming.{CanRename};
-ghost use Rattle.nuc_undo.specs.Laid.{with_node};
+ghost use Rattle.nuc_undo.specs.Laid.{StillLaid, with_node};
 
+use crate::earlier::Earlier;
 use crate::renaming::{nodes_renamed, rename};
 use nuc_base::{Name, Node, NodeId, TreeLike};
 use nuc_folder::Key;
@@ -16,6 +17,7 @@ use nuc_observe::{Keys, keys_are_one_to_one};
 use nuc_undo::UndoTree;
 use std::alloc::{AllocError, Global};
 use std::marker::Model;
+use std::mem;
 
 /// The folder as a client last observed it: a tree, and the key of the folder that each of its identities has.
 ///
@@ -25,6 +27,8 @@ use std::marker::Model;
 pub struct Local<T: TreeLike> {
     tree: UndoTree<T>,
     keys: Keys,
+    /// What there was at the last `settle`, where all was replaced since. What lies by is in `tree` alone.
+    before: Option<Earlier<T>>,
 }
 
 impl<T: TreeLike> Model for Local<T> {
@@ -34,9 +38,9 @@ impl<T: TreeLike> Model for Local<T> {
 
     ghost coded = { locals_code };
 
-    ghost view = { λ l. locals_of l.tree l.keys };
+    ghost view = { λ l. locals_of l.tree l.keys l.before };
 
-    ghost invariant = { λ l. AreLocal (locals_of l.tree l.keys) };
+    ghost invariant = { λ l. AreLocal (locals_of l.tree l.keys l.before) };
 }
 
 impl<T: TreeLike> Local<T> {
@@ -54,6 +58,7 @@ impl<T: TreeLike> Local<T> {
         Local {
             tree: UndoTree::of(alloc, tree),
             keys,
+            before: None,
         }
     }
 
@@ -217,6 +222,63 @@ impl<T: TreeLike> Local<T> {
         put_key(&mut self.keys, to, held);
         Ok(())
     }
+}
+
+/// Calls that let a tree go.
+impl<T: TreeLike + Drop> Local<T> {
+    /// This tree with these keys comes in place of what there is now, with room for that many changes. What was put from
+    /// the nodes laid by is laid by again, and no other is copied or moved.
+    pub fn replace(
+        &mut self,
+        alloc: Global,
+        tree: T,
+        mut keys: Keys,
+        room: u64,
+    ) -> Result<(), AllocError>
+        requires form { WellFormed (T.nodes tree) }
+        requires keys { HaveKeys (T.nodes tree) keys.now }
+        requires settled { keys.past ≡ [] }
+        ensures now { OnOk result (self.new.now ≡ record { tree = T.nodes tree; keys = keys.now }) }
+        ensures laid { OnOk result (self.new.laid ≡ self.old.laid_then) }
+        ensures still { StillLaid self.old.laid self.new.laid }
+        ensures laid_then { self.new.laid_then ≡ self.old.laid_then }
+        ensures settled { self.new.settled ≡ self.old.settled }
+        ensures spare { OnOk result (room ≤ self.new.spare) }
+        ensures spare_then { self.old.spare_then ≤ self.new.spare_then }
+        ensures err { OnErr result (KeepsLocal self.old self.new) }
+        ensures err_laid { OnErr result (self.new.laid ≡ self.old.laid) }
+    {
+        let mut tree = UndoTree::of(alloc, tree);
+        tree.reserve(room)?;
+        keys.reserve(room)?;
+        self.exchange(tree, keys);
+        Ok(())
+    }
+
+    /// The same for a tree and keys that are settled, with nothing laid by. It takes no memory.
+    fn exchange(&mut self, mut tree: UndoTree<T>, mut keys: Keys)
+        requires tree { tree.past ≡ [] }
+        requires keys { keys.past ≡ [] }
+        requires follow { HaveKeys tree.now keys.now }
+        ensures now { self.new.now ≡ record { tree = tree.now; keys = keys.now } }
+        ensures laid { self.new.laid ≡ self.old.laid_then }
+        ensures still { StillLaid self.old.laid self.new.laid }
+        ensures laid_then { self.new.laid_then ≡ self.old.laid_then }
+        ensures settled { self.new.settled ≡ self.old.settled }
+        ensures spare { min tree.spare keys.spare ≤ self.new.spare }
+        ensures spare_then { self.old.spare_then ≤ self.new.spare_then }
+    {
+        keys_are_one_to_one(&keys);
+        let _laid = self.tree.tree();
+        mem::swap(&mut self.tree, &mut tree);
+        mem::swap(&mut self.keys, &mut keys);
+        tree.back();
+        keys.back();
+        tree.swap_laid(&mut self.tree);
+        if self.before.is_none() {
+            self.before = Some(Earlier::of(tree, keys));
+        }
+    }
 
     /// What there is now is what `back` leads to, and what was put from those laid by doesn't go back to them. It takes no
     /// memory.
@@ -228,6 +290,7 @@ impl<T: TreeLike> Local<T> {
         ensures spare { self.old.spare ≤ self.new.spare }
         ensures spare_then { self.old.spare ≤ self.new.spare_then }
     {
+        self.before = None;
         self.tree.settle();
         self.keys.settle();
     }
@@ -241,6 +304,7 @@ impl<T: TreeLike> Local<T> {
         ensures spare { self.old.spare ≤ self.new.spare }
         ensures spare_then { self.old.spare ≤ self.new.spare_then }
     {
+        self.before = None;
         self.tree.settle();
         self.tree.forget_laid();
         self.keys.settle();
@@ -258,6 +322,12 @@ impl<T: TreeLike> Local<T> {
     {
         self.tree.back();
         self.keys.back();
+        if let Some(before) = self.before.take() {
+            let (mut tree, keys) = before.parts();
+            self.tree.swap_laid(&mut tree);
+            self.tree = tree;
+            self.keys = keys;
+        }
     }
 }
 

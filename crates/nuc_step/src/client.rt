@@ -309,7 +309,10 @@ impl<T: TreeLike> Client<T> {
         self.flights.clear();
         self.remote.forget();
     }
+}
 
+/// Calls that may let a tree go.
+impl<T: TreeLike + Drop> Client<T> {
     /// What there is now is what `back` leads to. It takes no memory.
     pub fn settle(&mut self)
         ensures now { self.new.now ≡ self.old.now }
@@ -355,7 +358,7 @@ fn applied_or_stale(landed: bool) -> DoneReply
 }
 
 /// Settles what the folder and the server agree on. While nothing flies, nothing needs to lie by.
-fn settle_trees<T: TreeLike>(local: &mut Local<T>, synced: &mut UndoTree<T>, flying: u64)
+fn settle_trees<T: TreeLike + Drop>(local: &mut Local<T>, synced: &mut UndoTree<T>, flying: u64)
     ensures local { SettlesLocal flying local.old local.new }
     ensures synced { SettlesSynced flying synced.old synced.new }
 {

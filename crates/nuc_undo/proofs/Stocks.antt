@@ -8,7 +8,7 @@ use Rattle.nuc_base.specs.Kinds.{FitsKind}
 use Rattle.nuc_base.specs.Trees.{Nodes}
 use Rattle.nuc_base.specs.declared.node.Node.{Node}
 use Rattle.nuc_undo.specs.Laid.{AllFit, Laid, given_back}
-use Rattle.nuc_undo.specs.State.{past_of}
+use Rattle.nuc_undo.specs.State.{IsUndoTree, past_of}
 use Rattle.nuc_undo.specs.Stock.{Has, HasAll, IsAway, StockState}
 use Rattle.nuc_undo.specs.Undo.{AreAway, TakesBack, id_of, laid_before, laid_first, undone}
 use Rattle.nuc_undo.specs.declared.undo.Step.{Step}
@@ -106,7 +106,7 @@ none_past m (s ∷ steps) none = cc
 abbrev with_laid : StockState → Laid → StockState
 with_laid s laid = record { laid = laid; numbers = s.numbers }
 
-stays : (m : Nodes) (steps : List Step) (s : StockState) → AreAway m steps s → (x : ℕ) (k : Node) → get s.laid x ≡ Some k → get (laid_first m steps s.laid) x ≡ Some k
+pub stays : (m : Nodes) (steps : List Step) (s : StockState) → AreAway m steps s → (x : ℕ) (k : Node) → get s.laid x ≡ Some k → get (laid_first m steps s.laid) x ≡ Some k
 stays m [] s away x k at = at
 stays m (u ∷ steps) s away x k at =
     stays (undone m u.undo) steps (with_laid s (laid_before m u s.laid)) away.1 x k (stays_one s u.number (get m (id_of u.undo)) away.0 x k at)
@@ -186,3 +186,14 @@ none_away m steps stock none = subst (λ l. AreAway m l stock) (sym none) tt
 
 pub first_is : (m : Nodes) (steps : List Step) (laid : Laid) → steps ≡ [] → laid_first m steps laid ≡ laid
 first_is m steps laid none = ap (λ l. laid_first m l laid) none
+
+pub other_stock : (m : Nodes) (steps : List Step) (spare kept : ℕ) (old new : StockState) → IsUndoTree m steps spare kept old → steps ≡ [] → AllFit new.laid
+    → IsUndoTree m steps spare kept new
+other_stock m steps spare kept old new was none fits = record {
+  form = was.form;
+  undos = was.undos;
+  owed = was.owed;
+  room = was.room;
+  away = none_away m steps new none;
+  fits = fits;
+}

@@ -22,3 +22,7 @@ given_back laid (Some x) put = with_node laid x put
 -- each has what its kind asks for
 abbrev pub AllFit : Laid → Type 0
 AllFit laid = (x : ℕ) (n : Node) → get laid x ≡ Some n → FitsKind n
+
+-- what lies by in the first lies by in the second too
+abbrev pub StillLaid : Laid → Laid → Type 0
+StillLaid laid after = (x : ℕ) (n : Node) → get laid x ≡ Some n → get after x ≡ Some n

@@ -176,3 +176,38 @@ fn puts_twice(
     tree.put_laid(number, id);
     Ok(())
 }
+
+/// What lies by in one tree is put in the other.
+#[test]
+fn swaps_what_is_laid_by(rt: HostRuntime) -> Result<(), Fail> {
+    let alloc = rt.alloc();
+    let mut tree = settled(&rt, alloc)?;
+    let mut other = UndoTree::of(alloc, Tree::new(alloc));
+    let (id, shape) = (NodeId(2), (0, b"c".as_slice(), 6));
+    let node = node(alloc, shape)?;
+    assert_eq!(&rt; other.tree().check_put(id, &node), Ok(()));
+    swaps_and_puts(&mut tree, &mut other, id, node)?;
+    stands(&rt, &tree, &SETTLED);
+    stands(&rt, &other, &[(2, shape)]);
+    Ok(())
+}
+
+fn swaps_and_puts(
+    tree: &mut UndoTree<Tree>,
+    other: &mut UndoTree<Tree>,
+    id: NodeId,
+    node: Node,
+) -> Result<(), AllocError>
+    requires settled { tree.old.past ≡ [] }
+    requires other_settled { other.old.past ≡ [] }
+    requires id { 0 < id.0 }
+    requires fits { FitsKind node }
+    requires legal { LegalPut other.old.now id.0 node }
+{
+    let _tree = tree.tree();
+    other.reserve(1)?;
+    tree.lay_by(4, node)?;
+    other.swap_laid(tree);
+    other.put_laid(4, id);
+    Ok(())
+}

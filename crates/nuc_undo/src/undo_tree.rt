@@ -3,7 +3,7 @@ ghost use Rattle.std.specs.FinMap as map;
 ghost use Rattle.nuc_base.specs.Kinds.{FitsKind};
 ghost use Rattle.nuc_base.specs.Legal.{LegalPut, LegalCut};
 ghost use Rattle.nuc_base.specs.Trees.{WellFormed};
-ghost use Rattle.nuc_undo.specs.Laid.{AllFit, with_node};
+ghost use Rattle.nuc_undo.specs.Laid.{AllFit, StillLaid, with_node};
 ghost use Rattle.nuc_undo.specs.State.{settled_of};
 ghost use Rattle.nuc_undo.specs.Steps.{AllTakenBack, Changed, IsSettled, Keeps, KeepsTree, TakenBack};
 
@@ -12,6 +12,7 @@ use crate::undo::{Step, cut_undoable, put_undoable, take_back};
 use nuc_base::{Node, NodeId, TreeLike};
 use std::alloc::{AllocError, Global};
 use std::marker::Model;
+use std::mem;
 
 /// A tree whose changes since its last `settle` can be taken back, the last first, without memory.
 ///
@@ -70,6 +71,7 @@ impl<T: TreeLike> UndoTree<T> {
         ensures settled { WellFormed (settled_of self.now) }
         ensures fits { AllFit self.now.laid }
         ensures laid { self.now.past ≡ [] → self.now.laid_then ≡ self.now.laid }
+        ensures still { StillLaid self.now.laid self.now.laid_then }
     {
         &self.tree
     }
@@ -171,6 +173,23 @@ impl<T: TreeLike> UndoTree<T> {
         ensures form { WellFormed self.new.now }
     {
         self.stock.clear();
+    }
+
+    /// What is laid by in each of two trees lies by in the other, where neither has changes to take back. It takes no
+    /// memory.
+    pub fn swap_laid(&mut self, other: &mut UndoTree<T>)
+        requires settled { self.old.past ≡ [] }
+        requires other_settled { other.old.past ≡ [] }
+        ensures tree { KeepsTree self.old self.new }
+        ensures laid { self.new.laid ≡ other.old.laid }
+        ensures laid_then { self.new.laid_then ≡ other.old.laid }
+        ensures form { WellFormed self.new.now }
+        ensures other_tree { KeepsTree other.old other.new }
+        ensures other_laid { other.new.laid ≡ self.old.laid }
+        ensures other_laid_then { other.new.laid_then ≡ self.old.laid }
+        ensures other_form { WellFormed other.new.now }
+    {
+        mem::swap(&mut self.stock, &mut other.stock);
     }
 
     /// Takes the last change since `settle` back, if there is one.
