@@ -10,9 +10,11 @@ mod journaling;
 mod layout;
 mod pages;
 mod placing;
+mod planning;
 mod storing;
 #[cfg(test)]
 mod tests;
+mod trees;
 mod work;
 
 use fault::Fault;
@@ -50,9 +52,23 @@ fn run(rt: &(impl Threads + Sync), alloc: Global, words: &[String]) -> Result<St
         [] => small(rt, alloc),
         [work, count] => count_by(alloc, work.as_str(), count.as_str()),
         [command, files, size] if command.as_str() == "many" => {
-            hashing::many(rt, alloc, number(files)?, number(size)?)
+            hashing::many(rt, alloc, number(files.as_str())?, number(size.as_str())?)
         }
-        [command, size, piece] => hash_by(alloc, command.as_str(), number(size)?, number(piece)?),
+        [command, size, piece] => hash_by(
+            alloc,
+            command.as_str(),
+            number(size.as_str())?,
+            number(piece.as_str())?,
+        ),
+        [command, first, second, third] => {
+            ask_by(
+                alloc,
+                command.as_str(),
+                first.as_str(),
+                second.as_str(),
+                third.as_str(),
+            )
+        }
         _ => Err(Fault::Usage),
     }
 }
@@ -75,8 +91,23 @@ fn hash_by(alloc: Global, command: &str, size: u64, piece: u64) -> Result<String
     }
 }
 
-fn number(word: &String) -> Result<u64, Fault> {
-    word.as_str().parse().map_err(|_| Fault::Usage)
+/// The commands with three words behind them.
+fn ask_by(
+    alloc: Global,
+    command: &str,
+    first: &str,
+    second: &str,
+    third: &str,
+) -> Result<String, Fault> {
+    match command {
+        "plan" => planning::plans(alloc, count_of(first)?, number(second)?, number(third)?),
+        "ask" => trees::ask_each(alloc, first, second, count_of(third)?),
+        _ => Err(Fault::Usage),
+    }
+}
+
+fn number(word: &str) -> Result<u64, Fault> {
+    word.parse().map_err(|_| Fault::Usage)
 }
 
 /// A little of each kind of work, to see that all of it runs.
@@ -84,7 +115,13 @@ fn small(rt: &(impl Threads + Sync), alloc: Global) -> Result<String, Fault> {
     let hash = hashing::hash(alloc, 1_000, 300)?;
     let sha2 = hashing::sha2(alloc, 1_000, 300)?;
     let many = hashing::many(rt, alloc, 3, 1_000)?;
-    let mut text = format!(in alloc; "hash {hash}\nsha2 {sha2}\nmany {many}")?;
+    let plan = planning::plans(alloc, 70, 3, 2)?;
+    let mut text = format!(in alloc; "hash {hash}\nsha2 {sha2}\nmany {many}\n{plan}")?;
+    for word in ["put", "at", "child", "under", "cut"] {
+        let line = trees::ask_each(alloc, "index", word, 70)?;
+        text.push_str("\n")?;
+        text.push_str(line.as_str())?;
+    }
     for work in Work::ALL {
         let line = work.run(alloc, 70)?;
         text.push_str("\n")?;
