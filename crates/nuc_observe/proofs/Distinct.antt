@@ -24,7 +24,7 @@ not_here item items key none =
       | false ↦ λ is e. ((λ same. let f : true ≡ false = sym (eq-eqb _ _ same) ∙ is in cc), e)
     ] refl none
 
-unlisted : (keys : KeyMap) (items : List Item) (key next : ℕ) → listed_kind items key ≡ None
+pub unlisted : (keys : KeyMap) (items : List Item) (key next : ℕ) → listed_kind items key ≡ None
     → (k : ℕ) (d : Row) → k < length (identity_rows keys next items) → (get_or (identity_rows keys next items) k d).from ≢ key
 unlisted keys [] key next none k d within = absurd (omega (arith, within))
 unlisted keys (item ∷ items) key next none zero d within = (not_here item items key none).0

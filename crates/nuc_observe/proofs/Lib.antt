@@ -1,6 +1,8 @@
+mod Aligned
 mod Apart
 mod Bound
 mod Distinct
+mod Fresh
 mod Grown
 mod InTurn
 mod Inverse

@@ -59,3 +59,6 @@ told_some keys key x has = alone keys key x has (id_of keys key) refl
 
 pub told_none : (keys : KeyMap) (key : ℕ) → IsUnheld keys key → None ≡ id_of keys key
 told_none keys key not = unheld keys key not (id_of keys key) refl
+
+pub id_holds : (keys : KeyMap) (key x : ℕ) → id_of keys key ≡ Some x → map.get keys x ≡ Some key
+id_holds keys key x is = key_is key (map.get keys x) (found_passes (λ z. is_key key (map.get keys z)) (map.keys keys) x is)

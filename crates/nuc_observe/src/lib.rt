@@ -1,4 +1,4 @@
-//! What a client has observed of its folder: which folder key each identity of Local has.
+//! What a client observes of its folder: which folder key each identity of Local has, and the new Local of a listing.
 #![tactic(auto)]
 
 mod binding;
@@ -10,6 +10,7 @@ mod item_size;
 mod judge;
 mod kept;
 mod keys;
+mod laws;
 #[cfg(test)]
 mod listing_tests;
 mod observe;
@@ -21,11 +22,12 @@ mod seen;
 mod tests;
 
 pub use binding::Binding;
-pub use judge::first_bad;
 pub use item_size::MOST_BYTES;
+pub use judge::first_bad;
 pub use kept::kept_version;
+pub use keys::{Keys, keys_are_one_to_one};
+pub use laws::{identities_differ, nodes_have_keys};
 pub use observe::observed;
 pub use observe_fault::ObserveFault;
 pub use observed_node::ObservedNode;
-pub use keys::{Keys, keys_are_one_to_one};
 pub use scanned::Observed;

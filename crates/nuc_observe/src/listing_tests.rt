@@ -1,4 +1,4 @@
-ghost use Rattle.std.specs.Prelude.{IfOk};
+ghost use Rattle.std.specs.Prelude.{◌<◌, IfOk};
 ghost use Rattle.nuc_base.specs.Kinds.{FitsKind};
 
 use super::*;
@@ -11,10 +11,10 @@ use std::alloc::{AllocError, Global};
 use std::test::Fail;
 
 /// An item's key, its parent's, a file's size, and the name.
-type Line = (u64, u64, Option<u64>, &'static [u8]);
+pub(crate) type Line = (u64, u64, Option<u64>, &'static [u8]);
 
 /// A content of this size, of which only the size matters here.
-fn content(alloc: Global, size: u64) -> Result<Option<Content>, AllocError> {
+pub(crate) fn content(alloc: Global, size: u64) -> Result<Option<Content>, AllocError> {
     let mut blocks = Items::new(alloc);
     for _ in 0..size.div_ceil(BLOCK as u64) {
         blocks.push(Digest([0; 32]))?;
@@ -22,7 +22,7 @@ fn content(alloc: Global, size: u64) -> Result<Option<Content>, AllocError> {
     Ok(Content::of(size, blocks))
 }
 
-fn item(alloc: Global, line: Line) -> Result<Item, AllocError> {
+pub(crate) fn item(alloc: Global, line: Line) -> Result<Item, AllocError> {
     let (key, parent, size, name) = line;
     let content = match size {
         Some(size) => content(alloc, size)?,
@@ -37,7 +37,8 @@ fn item(alloc: Global, line: Line) -> Result<Item, AllocError> {
     })
 }
 
-fn file(alloc: Global, name: &[u8]) -> Result<Node, NameFault>
+pub(crate) fn file(alloc: Global, name: &[u8], ver: u64) -> Result<Node, NameFault>
+    requires { 0 < ver }
     ensures { IfOk result FitsKind }
 {
     let name = Name::new(alloc, name)?;
@@ -48,7 +49,7 @@ fn file(alloc: Global, name: &[u8]) -> Result<Node, NameFault>
     Ok(Node {
         place,
         kind: Kind::File,
-        ver: Ver(1),
+        ver: Ver(ver),
         bit: false,
     })
 }
@@ -56,7 +57,7 @@ fn file(alloc: Global, name: &[u8]) -> Result<Node, NameFault>
 /// Where Local has the file 1, whose key is 5.
 fn first_bad_of(alloc: Global, lines: &[Line]) -> Result<Option<u64>, Fail> {
     let mut local = Tree::new(alloc);
-    local.put(NodeId(1), file(alloc, b"f")?)?;
+    local.put(NodeId(1), file(alloc, b"f", 1)?)?;
     let binding = Binding {
         id: NodeId(1),
         key: Key(5),

@@ -18,7 +18,7 @@ loop-index-preserved g c =
     let grown : take (i + 1) items ≡ earlier ++ item ∷ [] = take_more items i item (omega arith) ∙ ap (λ x. earlier ++ x ∷ []) (sym c.index-items-index.is) in
     let found = c.in_ok-place.ensures earlier c.loop-index.invariant.seen in
     let good = subst (λ o. MatchOption o (¬ (IsGood c.args.keys.now.now (g.T.TreeLike.nodes c.args.local.now) earlier item))
-        (λ place. IsGood c.args.keys.now.now (g.T.TreeLike.nodes c.args.local.now) earlier item × (place ≡ place_of item))) c.in-Some.is found in
+    (λ place. IsGood c.args.keys.now.now (g.T.TreeLike.nodes c.args.local.now) earlier item × (place ≡ place_of item))) c.in-Some.is found in
     record {
       seen = subst (HasSeen c.add.new.self) (sym grown) (c.in_ok-add.ensures earlier item c.loop-index.invariant.seen good.0.new refl c.kind_of.ensures good.1);
       good = subst (IsGoodListing c.args.keys.now.now (g.T.TreeLike.nodes c.args.local.now)) (sym grown) (more earlier item c.loop-index.invariant.good good.0);
@@ -34,5 +34,5 @@ returns-in_default g c =
     let split : items ≡ earlier ++ item ∷ later = split_at items i item (omega arith) ∙ ap (λ x. earlier ++ x ∷ later) (sym c.index-items-index.is) in
     let found = c.in_ok-place.ensures earlier c.loop-index.invariant.seen in
     let bad = subst (λ o. MatchOption o (¬ (IsGood c.args.keys.now.now (g.T.TreeLike.nodes c.args.local.now) earlier item))
-        (λ place. IsGood c.args.keys.now.now (g.T.TreeLike.nodes c.args.local.now) earlier item × (place ≡ place_of item))) c.in_default.is found in
+    (λ place. IsGood c.args.keys.now.now (g.T.TreeLike.nodes c.args.local.now) earlier item × (place ≡ place_of item))) c.in_default.is found in
     (earlier, item, later, split, ap (λ n. n + 1) (sym (length-take-le i items (omega arith))), c.loop-index.invariant.good, bad)
