@@ -8,7 +8,7 @@ use crate::done::done_text;
 use crate::web::{web_reply_text, web_text};
 use crate::words::{escaped, filling_word, path_word};
 use nuc_class::{Op, Verb};
-use nuc_folder::{Item, FlatEdit, FlatReply};
+use nuc_folder::{FlatEdit, FlatReply, Item};
 use nuc_hash::{Content, hash_text};
 use nuc_step::{Event, LogEntry, MarkReply, PlanReply, Reply, ScanReply, StartReply, TakeReply};
 use std::alloc::{AllocError, Global};
@@ -41,11 +41,7 @@ pub(crate) fn item_line(alloc: Global, item: &Item) -> Result<String, AllocError
     format!(in alloc; "item {key} {parent} {content} {name}\n")
 }
 
-fn content_text(
-    alloc: Global,
-    bit: bool,
-    content: &Option<Content>,
-) -> Result<String, AllocError>
+fn content_text(alloc: Global, bit: bool, content: &Option<Content>) -> Result<String, AllocError>
     ensures { IfOk result (λ text. string_bytes text ≡ joined (content_words bit content.now)) }
 {
     match content {

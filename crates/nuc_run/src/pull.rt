@@ -11,9 +11,9 @@ ghost use Rattle.nuc_step.specs.declared.event.Event.TheVariants as event;
 
 use crate::world::{CLIENT, World, record};
 use nuc_base::{cut_legal, put_legal};
+use nuc_index::IndexTree;
 use nuc_journal::Entry;
 use nuc_step::{Event, Log, Reply};
-use nuc_index::IndexTree;
 use std::alloc::{AllocError, Global};
 
 impl World {

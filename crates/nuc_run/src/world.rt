@@ -31,7 +31,7 @@ use nuc_base::{Change, Counters, Node, put_legal};
 use nuc_blocks::Store;
 use nuc_class::Op;
 use nuc_edits::Edits;
-use nuc_folder::{Item, FlatFolder, ReadBack, FlatEdit, FlatReply};
+use nuc_folder::{FlatEdit, FlatFolder, FlatReply, Item, ReadBack};
 use nuc_hash::{Content, content_of};
 use nuc_server::{Commit, CommitReply, LoopServer, keep_blocks};
 use nuc_step::{

@@ -1,6 +1,6 @@
 use crate::Reason;
 use nuc_class::Op;
-use nuc_folder::{Item, FlatReply};
+use nuc_folder::{FlatReply, Item};
 use nuc_server::WebReply;
 use sqlite_items::Items;
 
