@@ -3,6 +3,7 @@ use Rattle.std.specs.Prelude.{◌≡◌, ◌⊎◌, ◌<◌, ℕ, suc, true, fal
 use Rattle.nuc_filework.specs.declared.call.Call.{Call}
 use Rattle.nuc_filework.specs.declared.call.Call.TheVariants.{MakeDir, WriteNew, Replace, SetBit, MoveTo, Remove}
 use Rattle.nuc_folder.specs.Answers.{Changes, MakeDirAnswers, Makes, MoveAnswers, RemoveAnswers, ReplaceAnswers, SetBitAnswers, Told, WriteNewAnswers}
+use Rattle.nuc_folder.specs.Beside.{Beside, InMemory}
 use Rattle.nuc_folder.specs.Outcome.{is_success}
 use Rattle.nuc_folder.specs.State.{FolderState, IsTold, place_of}
 use Rattle.nuc_folder.specs.declared.outcome.Outcome.{Outcome}
@@ -11,11 +12,13 @@ use Rattle.nuc_folder.specs.declared.ran.RanOp.{RanOp}
 use Rattle.nuc_io.specs.Causes.{HasCause}
 use Rattle.nuc_observe.specs.Keys.{IsUnheld, KeyMap}
 
--- what is known of a folder between two calls: what it holds, where it tells it, what every key is below, and its faults
+-- what is known of a folder between two calls: what it holds, where it tells it, what every key is below, its faults, and what
+-- only a folder in memory has
 pub record FolderView : Type 0 where
   pub told : Option FolderState
   pub next : ℕ
   pub faults : ℕ
+  pub beside : Option Beside
 
 -- the folder's answer to a call, by what it held and holds; a call that writes writes these bytes
 abbrev pub CallAnswers : List ℕ → Call → FolderState → Outcome → FolderState → Type 0
@@ -41,6 +44,7 @@ pub record Called (bytes : List ℕ) (call : Call) (before : FolderView) (answer
   pub keys : Succeeds call answer before.next after.next
   pub form : IsTold after.next after.told
   pub cause : HasCause before.faults after.faults (answer ≡ outcome.Failed)
+  pub memory : InMemory answer before.beside before.next after.beside after.next
 
 -- the calls are made in order, as long as each succeeds: the answer is that of the first that doesn't, else that of the
 -- last, and `last` where there is none; so many succeeded

@@ -75,6 +75,8 @@ impl Folder for Recorder {
 
     ghost faults = { λ s. s.faults };
 
+    ghost beside = { λ s. None };
+
     fn list(&mut self, alloc: Global) -> Listed {
         Listed::Items(Items::new(alloc))
     }

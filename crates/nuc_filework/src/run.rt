@@ -28,8 +28,8 @@ pub fn run_op<F: Folder>(
 ) -> RanOp
     ensures { RunsOp keys.now.now (unwrap_or (option_copied bytes.entry) [])
         (spec.calls_of keys.now.now op.now seen.now wanted.now (is_some bytes.entry))
-        (record { told = F.told folder.old; next = F.next folder.old; faults = F.faults folder.old }) result
-        (record { told = F.told folder.new; next = F.next folder.new; faults = F.faults folder.new }) }
+        (record { told = F.told folder.old; next = F.next folder.old; faults = F.faults folder.old; beside = F.beside folder.old }) result
+        (record { told = F.told folder.new; next = F.next folder.new; faults = F.faults folder.new; beside = F.beside folder.new }) }
 {
     match calls_of(alloc, op, keys, seen, wanted, bytes.is_some()) {
         Ok(calls) => accepted(keys, run(alloc, &calls, bytes.unwrap_or(&[]), folder)),
@@ -61,8 +61,8 @@ fn accepted(keys: &Keys, ran: RanOp) -> RanOp
 fn run<F: Folder>(alloc: Global, calls: &[Call], bytes: &[u8], folder: &mut F) -> RanOp
     requires { length calls.now ≤ 3 }
     ensures { Runs bytes.now Outcome.Ok calls.now
-        (record { told = F.told folder.old; next = F.next folder.old; faults = F.faults folder.old }) result.outcome result.made
-        (record { told = F.told folder.new; next = F.next folder.new; faults = F.faults folder.new }) }
+        (record { told = F.told folder.old; next = F.next folder.old; faults = F.faults folder.old; beside = F.beside folder.old }) result.outcome result.made
+        (record { told = F.told folder.new; next = F.next folder.new; faults = F.faults folder.new; beside = F.beside folder.new }) }
 {
     let mut last = Outcome::Ok;
     let mut made = 0;
@@ -85,8 +85,8 @@ fn run<F: Folder>(alloc: Global, calls: &[Call], bytes: &[u8], folder: &mut F) -
 
 fn make<F: Folder>(alloc: Global, call: &Call, bytes: &[u8], folder: &mut F) -> Outcome
     ensures { Called bytes.now call.now
-        (record { told = F.told folder.old; next = F.next folder.old; faults = F.faults folder.old }) result
-        (record { told = F.told folder.new; next = F.next folder.new; faults = F.faults folder.new }) }
+        (record { told = F.told folder.old; next = F.next folder.old; faults = F.faults folder.old; beside = F.beside folder.old }) result
+        (record { told = F.told folder.new; next = F.next folder.new; faults = F.faults folder.new; beside = F.beside folder.new }) }
 {
     match call {
         Call::MakeDir(place) => folder.make_dir(alloc, place),

@@ -8,12 +8,14 @@ use Rattle.nuc_shelf.specs.Shelf.{ShelfState, IsShelf, changed, file_at, folder_
 use Rattle.nuc_folder.specs.Memory.{IsKeyed, MemState}
 use Rattle.nuc_folder.specs.Removals.{Removes}
 use Rattle.nuc_folder.specs.State.{KeysBelow}
+use Rattle.nuc_folder.specs.User.{ChangesOnce, IsDone, UserAnswers}
 use Rattle.nuc_folder.specs.UserEdits.{Does, next_after}
 use Rattle.nuc_folder.specs.declared.noticed.Noticed.{Noticed}
 use Rattle.nuc_folder.specs.declared.noticed.Noticed.TheVariants as noticed
 use Rattle.nuc_folder.specs.declared.user_edit.UserEdit.{UserEdit}
 use Rattle.nuc_folder.specs.declared.user_edit.UserReply.{UserReply}
 use Rattle.nuc_folder.specs.declared.user_edit.UserEdit.TheVariants as edit
+use Rattle.nuc_folder.specs.declared.user_edit.UserReply.TheVariants as answer
 use Rattle.nuc_folder.proofs.Keyed.{TreeBelow}
 use Rattle.nuc_folder.proofs.Removing.{cut_below}
 
@@ -46,6 +48,30 @@ does_below (edit.Move from to) n s notice t below (x, k, place, finds, free, apa
 does_below (edit.Bit path bit) n s notice t below (x, k, finds, file, is, told) =
     told_below n n notice _ t _ refl told is (changed_below n x s.tree (with_bit bit) (get s.tree x) refl below)
 does_below (edit.Remove path) n s notice t below none = absurd none
+
+-- so are they after whatever a user does
+once_below : (e : UserEdit) (s t : MemState) → KeysBelow s.next s.held → ChangesOnce e s t → KeysBelow t.next t.held
+once_below e s t below (notice, does, next, pending) = subst (λ n. KeysBelow n t.held) (sym next) (does_below e s.next s.held notice t.held below does)
+
+done_below : (e : UserEdit) (s t : MemState) → KeysBelow s.next s.held → IsDone e s t → KeysBelow t.next t.held
+done_below (edit.Remove path) s t below (notices, (keys, finds, cut, told), next, pending) =
+    subst (λ n. KeysBelow n t.held) (sym next) (subst (KeysBelow s.next) (sym cut) (cut_below s.next s.held (reverse keys) below))
+done_below (edit.Mkdir path) s t below once = once_below (edit.Mkdir path) s t below once
+done_below (edit.Write path filling) s t below once = once_below (edit.Write path filling) s t below once
+done_below (edit.Move from to) s t below once = once_below (edit.Move from to) s t below once
+done_below (edit.Bit path bit) s t below once = once_below (edit.Bit path bit) s t below once
+
+stays_below : (s t : MemState) → t ≡ s → KeysBelow s.next s.held → KeysBelow t.next t.held
+stays_below s t same below = subst (λ (m : MemState). KeysBelow m.next m.held) (sym same) below
+
+pub user_below : (e : UserEdit) (s : MemState) (reply : UserReply) (t : MemState) → KeysBelow s.next s.held → UserAnswers e s reply t → KeysBelow t.next t.held
+user_below e s answer.Ok t below done = done_below e s t below done
+user_below e s answer.NoSuch t below (why, same) = stays_below s t same below
+user_below e s answer.NoParent t below (why, same) = stays_below s t same below
+user_below e s answer.Kind t below (why, same) = stays_below s t same below
+user_below e s answer.Taken t below (why, same) = stays_below s t same below
+user_below e s answer.Cycle t below (why, same) = stays_below s t same below
+user_below e s answer.Memory t below (why, same) = stays_below s t same below
 
 next_some : (notice : Noticed) (n : ℕ) → n ≤ next_after notice n
 next_some (noticed.Made item) n = omega arith

@@ -61,8 +61,8 @@ notices_code = code_by (List Noticed × (List Noticed × ℕ)) (coded× (coded_l
     (λ s. (s.now, (s.settled, s.room))) (λ t. record { now = t.0; settled = t.1.0; room = t.1.1 }) (λ _. refl)
 
 abbrev pub calls_code : Coded CallsData
-calls_code = code_by (ℕ × (List ℕ × ℕ)) (coded× coded_ℕ (coded× (coded_list coded_ℕ) coded_ℕ))
-    (λ c. (c.made, (c.failing, c.faults))) (λ t. record { made = t.0; failing = t.1.0; faults = t.1.1 }) (λ _. refl)
+calls_code = code_by (ℕ × (ℕ × (List ℕ × ℕ))) (coded× coded_ℕ (coded× coded_ℕ (coded× (coded_list coded_ℕ) coded_ℕ)))
+    (λ c. (c.made, (c.settled, (c.failing, c.faults)))) (λ t. record { made = t.0; settled = t.1.0; failing = t.1.1.0; faults = t.1.1.1 }) (λ _. refl)
 
 abbrev pub mem_code : Coded MemState
 mem_code = code_by (FolderState × (ℕ × List Noticed)) (coded× shelf.state_code (coded× coded_ℕ (coded_list noticed_code)))

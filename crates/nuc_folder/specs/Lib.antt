@@ -1,4 +1,5 @@
 pub mod Answers
+pub mod Beside
 pub mod Codes
 pub mod FlatFolder
 pub mod FlatFormed

@@ -16,6 +16,10 @@ mod listing;
 mod making;
 mod mem_calls;
 mod mem_folder;
+#[cfg(test)]
+mod mem_tests;
+#[cfg(test)]
+mod mem_trial;
 mod noticed;
 mod notices;
 mod outcome;
@@ -28,6 +32,10 @@ mod tests;
 mod user;
 mod user_change;
 mod user_edit;
+#[cfg(test)]
+mod user_tests;
+#[cfg(test)]
+mod user_trial;
 
 pub use flat_edit::{FlatEdit, FlatReply};
 pub use flat_folder::FlatFolder;

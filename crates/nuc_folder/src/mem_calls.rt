@@ -21,6 +21,8 @@ impl Folder for MemFolder {
 
     ghost faults = { λ s. s.calls.faults };
 
+    ghost beside = { λ s. Some (record { calls = s.calls; settled = s.settled; pending = s.now.pending }) };
+
     fn list(&mut self, alloc: Global) -> Listed
         ensures told { ListAnswers self.old.now.held result self.new.now.held }
         ensures keys { ListsBelow result self.new.now.next }

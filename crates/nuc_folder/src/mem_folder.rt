@@ -1,5 +1,5 @@
 ghost use Rattle.std.specs.Prelude.{◌≡◌, ◌<◌, ◌≤◌, ◌+◌, [], ◌∷◌, ◌++◌, drop, IsTrue, Some, IfOk, OnOk, OnErr};
-ghost use Rattle.nuc_io.specs.Calls.{after_call, is_to_fail};
+ghost use Rattle.nuc_io.specs.Calls.{after_call, calls_back, is_to_fail, settled_calls};
 ghost use Rattle.nuc_io.specs.Causes.{Rose};
 ghost use Rattle.nuc_folder.specs.Listing.{IsListing};
 ghost use Rattle.nuc_folder.specs.Memory.{empty_state};
@@ -48,7 +48,7 @@ impl Model for MemFolder {
 impl MemFolder {
     /// An empty folder, settled, none of whose calls fails. It takes no memory.
     pub fn new(alloc: Global) -> MemFolder
-        ensures { result ≡ record { now = empty_state; settled = empty_state; calls = record { made = 0; failing = []; faults = 0 } } }
+        ensures { result ≡ record { now = empty_state; settled = empty_state; calls = record { made = 0; settled = 0; failing = []; faults = 0 } } }
     {
         MemFolder {
             shelf: Shelf::new(alloc),
@@ -89,21 +89,23 @@ impl MemFolder {
 
     /// What the folder is now is what `back` leads to. It takes no memory.
     pub fn settle(&mut self)
-        ensures { self.new ≡ record { now = self.old.now; settled = self.old.now; calls = self.old.calls } }
+        ensures { self.new ≡ record { now = self.old.now; settled = self.old.now; calls = settled_calls self.old.calls } }
     {
         self.shelf.settle();
         self.notices.settle();
         self.settled_key = self.next_key;
+        self.calls.settle();
     }
 
-    /// The folder is again what it was when `settle` was last called, or when it was made. Its calls stay: how many there
-    /// were, which are to fail, and how many have failed. It takes no memory.
+    /// The folder is again what it was when `settle` was last called, or when it was made, and the calls since then don't
+    /// count. Which calls are to fail, and how many have failed, stays. It takes no memory.
     pub fn back(&mut self)
-        ensures { self.new ≡ record { now = self.old.settled; settled = self.old.settled; calls = self.old.calls } }
+        ensures { self.new ≡ record { now = self.old.settled; settled = self.old.settled; calls = calls_back self.old.calls } }
     {
         self.shelf.back();
         self.notices.back();
         self.next_key = self.settled_key;
+        self.calls.back();
     }
 
     /// Counts a call, and says whether it fails.
