@@ -2,8 +2,11 @@
 use Rattle.std.proofs.Common.{◌≡◌, ℕ, ◌<◌, ◌++◌, true, false, cond, nat_eq, List, [], ◌∷◌, None, Some, refl, sym, ap, ◌∙◌, arith, All, IsSome, eq-eqb, true≢false}
 use Rattle.std.proofs.lemmas.List.Elements.{All-tail}
 use Rattle.std.specs.Option.{option_and_then, option_or}
+use Rattle.std.specs.Prelude.{is_some}
 use Rattle.nuc_edits.specs.Edits.{IsNext, WasPut, edit_of, content_at, content_put}
 use Rattle.nuc_edits.specs.declared.edit.Edit.{Edit}
+use Rattle.nuc_edits.specs.declared.edit.EditKind.TheVariants as edit
+use Rattle.nuc_hash.specs.Content.{ContentData}
 
 -- THE NEXT VERSION has no edit yet
 no_edit : (next : ℕ) (edits : List Edit) → All (λ edit. edit.ver.0 < next) edits → edit_of edits next ≡ None
@@ -39,3 +42,10 @@ content_entered edits edit is_next =
     ap (option_and_then (λ (e : Edit). content_put e.what))
     (edit_more edit.ver.0 edits (edit ∷ []) ∙ ap (λ found. option_or found (edit_of (edit ∷ []) edit.ver.0)) (next_has_none edit.ver.0 edits is_next)
     ∙ ap (λ b. cond b (Some edit) None) (eq-eqb edit.ver.0 edit.ver.0 refl))
+
+-- VERSIONS that were put are so in the longer list
+pub put_kept : (edits more : List Edit) (v : ℕ) → WasPut edits v → WasPut (edits ++ more) v
+put_kept edits more v was = ap is_some (content_kept v edits more was) ∙ was
+
+pub put_entered : (edits : List Edit) (e : Edit) (content : ContentData) → IsNext e.ver.0 edits → e.what ≡ edit.Put content → WasPut (edits ++ e ∷ []) e.ver.0
+put_entered edits e content next what = ap is_some (content_entered edits e next ∙ ap content_put what)

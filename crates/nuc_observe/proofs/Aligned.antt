@@ -1,7 +1,6 @@
 -- The nodes of a good listing have the identities of its bindings.
 use Rattle.std.proofs.Common.{◌≡◌, ◌∙◌, ◌<◌, ℕ, zero, suc, List, [], ◌∷◌, length, map, get_or, Some, refl, sym, ap, arith}
 use Rattle.std.specs.Prelude.{unwrap_or}
-use Rattle.std.specs.FinMap as finite
 use Rattle.std.specs.FinMap.{find, get-from_entries}
 use Rattle.std.specs.Ordering.{nat_cmp}
 use Rattle.std.proofs.lemmas.Cmp.{nat_cmp_total}
@@ -23,7 +22,7 @@ found (r ∷ rows) apart (suc i) d within =
     find_later (get_or rows i d).from r rows (λ same. apart 0 (suc i) d (omega arith) within (sym same))
     ∙ found rows (λ a b c lt inside. apart (suc a) (suc b) c (omega (arith, lt)) (omega (arith, inside))) i d (omega (arith, within))
 
-leads : (rows : List Row) → AreApart rows → (i : ℕ) (d : Row) → i < length rows → identity (numbers_in rows) (get_or rows i d).from ≡ (get_or rows i d).to
+pub leads : (rows : List Row) → AreApart rows → (i : ℕ) (d : Row) → i < length rows → identity (numbers_in rows) (get_or rows i d).from ≡ (get_or rows i d).to
 leads rows apart i d within =
     ap (λ o. unwrap_or o 0) (get-from_entries nat_cmp_total (pairs rows) (get_or rows i d).from ∙ found rows apart i d within)
 

@@ -1,5 +1,5 @@
 -- No key of a good listing comes twice.
-use Rattle.std.proofs.Common.{◌≡◌, ◌≢◌, ◌∙◌, ◌==◌, ◌<◌, ℕ, zero, suc, Bool, true, false, cond, T, List, [], ◌∷◌, ◌++◌, length, get_or, None, Some, refl, sym, ap, subst, arith}
+use Rattle.std.proofs.Common.{◌≡◌, ◌≢◌, ◌∙◌, ◌==◌, ◌<◌, ℕ, zero, suc, true, false, cond, T, List, [], ◌∷◌, length, get_or, None, Some, refl, sym, ap, subst, arith}
 use Rattle.std.specs.Prelude.{is_some, option_map, slice_get}
 use Rattle.std.specs.FinMap as map
 use Rattle.std.specs.FinMap.{len-entries}
@@ -17,7 +17,7 @@ use Rattle.nuc_observe.specs.Observed.{id_of, identity_rows}
 use Rattle.nuc_observe.specs.Turns.{next_after}
 use Rattle.nuc_observe.proofs.InTurn as turn
 
-not_here : (item : Item) (items : List Item) (key : ℕ) → listed_kind (item ∷ items) key ≡ None → (item.key.0 ≢ key) × (listed_kind items key ≡ None)
+pub not_here : (item : Item) (items : List Item) (key : ℕ) → listed_kind (item ∷ items) key ≡ None → (item.key.0 ≢ key) × (listed_kind items key ≡ None)
 not_here item items key none =
     elim (item.key.0 == key) as (λ t. (item.key.0 == key) ≡ t → option_map (λ i. kind_of i.content) (cond t (Some item) (item_of items key)) ≡ None → (item.key.0 ≢ key) × (listed_kind items key ≡ None)) [
       | true ↦ λ is e. absurd (subst T (ap is_some e) tt)

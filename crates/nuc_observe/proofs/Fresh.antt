@@ -1,5 +1,5 @@
 -- The identities of a good listing differ.
-use Rattle.std.proofs.Common.{◌≡◌, ◌≢◌, ◌∙◌, ◌⊎◌, ◌+◌, ◌<◌, ◌≤◌, ℕ, zero, suc, AllPairs, List, [], ◌∷◌, ◌++◌, length, get_or, Option, None, Some, refl, sym, ap, subst, inl, inr, arith}
+use Rattle.std.proofs.Common.{◌≡◌, ◌≢◌, ◌∙◌, ◌⊎◌, ◌+◌, ◌<◌, ◌≤◌, ℕ, zero, suc, AllPairs, List, [], ◌∷◌, length, get_or, Option, None, Some, refl, sym, ap, subst, inl, inr, arith}
 use Rattle.std.specs.Prelude.{unwrap_or}
 use Rattle.std.specs.FinMap as map
 use Rattle.std.proofs.lemmas.List.Quantifiers.{all_pairs_push}
@@ -8,23 +8,23 @@ use Rattle.nuc_folder.specs.declared.item.Item.{Item}
 use Rattle.nuc_lookup.specs.declared.row.Row.{Row}
 use Rattle.nuc_lookup.proofs.Maps.{one_number}
 use Rattle.nuc_observe.specs.Keys.{KeyMap}
-use Rattle.nuc_observe.specs.Laws.{AreDrawn}
+use Rattle.nuc_observe.specs.Made.{AreDrawn}
 use Rattle.nuc_observe.specs.Listing.{IsGoodListing, nothing, more}
 use Rattle.nuc_observe.specs.Observed.{id_of, identity_rows, next_id_after}
-use Rattle.nuc_observe.specs.Turns.{next_after, next_after_all}
+use Rattle.nuc_observe.specs.Turns.{next_after}
 use Rattle.nuc_observe.proofs.Distinct.{unlisted}
 use Rattle.nuc_observe.proofs.InTurn as turn
 use Rattle.nuc_observe.proofs.Whose.{id_holds}
 
 -- the identity has the row's key, or was drawn between the two numbers
-abbrev RowIs : KeyMap → ℕ → ℕ → Row → Type 0
+abbrev pub RowIs : KeyMap → ℕ → ℕ → Row → Type 0
 RowIs keys low high r = (map.get keys r.to ≡ Some r.from) ⊎ ((low ≤ r.to) × (r.to < high))
 
-step_rises : (o : Option ℕ) (next : ℕ) → next ≤ next_after o next
+pub step_rises : (o : Option ℕ) (next : ℕ) → next ≤ next_after o next
 step_rises None next = omega arith
 step_rises (Some x) next = omega arith
 
-rises : (keys : KeyMap) (next : ℕ) (items : List Item) → next ≤ next_id_after keys next items
+pub rises : (keys : KeyMap) (next : ℕ) (items : List Item) → next ≤ next_id_after keys next items
 rises keys next [] = omega arith
 rises keys next (item ∷ items) =
     let first = step_rises (id_of keys item.key.0) next in
@@ -40,7 +40,7 @@ lower : (keys : KeyMap) (low next high : ℕ) (r : Row) → low ≤ next → Row
 lower keys low next high r le (inl held) = inl held
 lower keys low next high r le (inr (from, to)) = inr (omega (arith, le, from), to)
 
-rows_are : (keys : KeyMap) (next : ℕ) (items : List Item) (k : ℕ) (d : Row) → k < length (identity_rows keys next items)
+pub rows_are : (keys : KeyMap) (next : ℕ) (items : List Item) (k : ℕ) (d : Row) → k < length (identity_rows keys next items)
     → RowIs keys next (next_id_after keys next items) (get_or (identity_rows keys next items) k d)
 rows_are keys next [] k d within = absurd (omega (arith, within))
 rows_are keys next (item ∷ items) zero d within = first_is keys next item.key.0 items (id_of keys item.key.0) refl

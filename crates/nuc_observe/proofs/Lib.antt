@@ -1,10 +1,18 @@
 mod Aligned
 mod Apart
 mod Bound
-mod Distinct
-mod Fresh
+pub mod Distinct
+mod Drawn
+pub mod Fresh
 mod Grown
 mod InTurn
 mod Inverse
+pub mod KeptFits
+pub mod KeptPut
+pub mod Made
+mod Members
+pub mod Origin
+mod Reordered
+mod Standing
 mod Undoing
 mod Whose

@@ -71,7 +71,7 @@ fn drawn_rows(
 }
 
 /// The identity that has the key in Local.
-pub(crate) fn own_id(keys: &Keys, key: Key) -> Option<u64>
+pub fn own_id(keys: &Keys, key: Key) -> Option<u64>
     ensures { result ≡ id_of keys.now.now key.0 }
 {
     match keys.id_of(key) {

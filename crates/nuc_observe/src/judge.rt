@@ -94,7 +94,8 @@ fn keeps_kind<T: TreeLike>(key: Key, kind: Kind, keys: &Keys, local: &T) -> bool
     }
 }
 
-fn is_short(content: &Option<Content>) -> bool
+/// Whether a file has at most `MOST_BYTES`. A folder always is.
+pub fn is_short(content: &Option<Content>) -> bool
     ensures { MatchBool result (IsShort content.now) (¬ (IsShort content.now)) }
 {
     match content {
@@ -113,7 +114,7 @@ pub(crate) fn kind_of(content: &Option<Content>) -> Kind
 }
 
 /// The name of these bytes. None where they are no name.
-fn valid_name(alloc: Global, bytes: &[u8]) -> Result<Option<Name>, AllocError>
+pub fn valid_name(alloc: Global, bytes: &[u8]) -> Result<Option<Name>, AllocError>
     ensures { IfOk result (λ found. MatchOption found (¬ (IsName bytes.now)) (λ name. IsName bytes.now × (name ≡ bytes.now))) }
 {
     match Name::new(alloc, bytes) {

@@ -1,7 +1,7 @@
 ghost use Rattle.std.specs.Prelude.{◌≡◌, ◌++◌, IfErr, IfOk};
 ghost use Rattle.nuc_observe.specs.Known.{before_of};
 ghost use Rattle.nuc_observe.specs.Listing.{IsGoodListing};
-ghost use Rattle.nuc_observe.specs.Observed.{Before, IsInOrderBy, IsObserved, ObserveFaulty};
+ghost use Rattle.nuc_observe.specs.Observed.{Before, IsInOrderBy, IsObserved, ObserveFaulty, listed_ids, observed_nodes};
 
 use crate::deletions::deletions_of;
 use crate::gather::{Known, gather};
@@ -31,6 +31,8 @@ pub fn observed<T: TreeLike>(
     ensures good { IfOk result (λ all. IsGoodListing keys.now.now (T.nodes local.now) items.now) }
     ensures all { let before : Before = record { keys = keys.now.now; remote = T.nodes remote.now; local = T.nodes local.now; synced = T.nodes synced.now; edits = edits.now.now.edits } in
         IfOk result (λ all. IsObserved before items.now ids.now all.nodes.items all.keys.items all.edits.items all.ids) }
+    ensures listed { let before : Before = record { keys = keys.now.now; remote = T.nodes remote.now; local = T.nodes local.now; synced = T.nodes synced.now; edits = edits.now.now.edits } in
+        IfOk result (λ all. all.listed.items ≡ observed_nodes before (listed_ids keys.now.now ids.now.next_id items.now) ids.now.next_ver items.now) }
     ensures fault { IfErr result (ObserveFaulty keys.now.now (T.nodes local.now) items.now) }
 {
     let known = Known {
@@ -58,7 +60,9 @@ fn observed_good<T: TreeLike>(
     ids: &Counters,
 ) -> Result<Observed, AllocError>
     requires { IsGoodListing known.now.keys.now.now (T.nodes known.now.local.now) items.now }
-    ensures { IfOk result (λ all. IsObserved (before_of T.nodes known.now) items.now ids.now all.nodes.items all.keys.items all.edits.items all.ids) }
+    ensures all { IfOk result (λ all. IsObserved (before_of T.nodes known.now) items.now ids.now all.nodes.items all.keys.items all.edits.items all.ids) }
+    ensures listed { let before = before_of T.nodes known.now in
+        IfOk result (λ all. all.listed.items ≡ observed_nodes before (listed_ids before.keys ids.now.next_id items.now) ids.now.next_ver items.now) }
 {
     let found = identities_of(alloc, items, known.keys, ids.next_id)?;
     let gathered = gather(alloc, items, &found.by_key, known, ids.next_ver)?;
@@ -68,11 +72,22 @@ fn observed_good<T: TreeLike>(
         next_ver: deleted.next_ver,
     };
     Ok(Observed {
-        nodes: in_order(gathered.nodes),
+        nodes: in_order(copies(alloc, &gathered.nodes)?),
+        listed: gathered.nodes,
         keys: found.bindings,
         edits: joined(gathered.edits, deleted.edits)?,
         ids,
     })
+}
+
+fn copies(alloc: Global, nodes: &[ObservedNode]) -> Result<Vec<ObservedNode>, AllocError>
+    ensures { IfOk result (λ made. made.items ≡ nodes.now) }
+{
+    let mut made = Vec::new(alloc);
+    for node in nodes {
+        made.push(node.copy(alloc)?)?;
+    }
+    Ok(made)
 }
 
 fn in_order(nodes: Vec<ObservedNode>) -> Vec<ObservedNode>

@@ -18,7 +18,7 @@ enum Step {
 }
 
 /// Gives an identity above 0 a key above 0, which is taken from whoever else has it.
-fn hand(keys: &mut Keys, id: NodeId, key: Key) -> Result<(), AllocError>
+pub(crate) fn hand(keys: &mut Keys, id: NodeId, key: Key) -> Result<(), AllocError>
     requires id { 0 < id.0 }
     requires key { 0 < key.0 }
 {
