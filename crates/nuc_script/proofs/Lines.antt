@@ -1,50 +1,68 @@
--- From a whole line to the next command.
-use Rattle.std.proofs.Common.{◌≡◌, ◌≢◌, ℕ, ◌+◌, ◌≤◌, ◌<◌, Bool, true, false, List, [], ◌∷◌, ◌++◌, length, get_or, Option, refl, sym, ap, subst, ◌∙◌, arith, length-append}
-use Rattle.std.proofs.lemmas.List.{append_cancel_right, get_or_at}
+-- From a whole line to what it gives.
+use Rattle.std.proofs.Common.{◌≡◌, ◌≢◌, ℕ, ◌+◌, ◌≤◌, Bool, true, false, ◌==◌, List, [], ◌∷◌, ◌++◌, length, Option, refl, sym, ap, subst, ◌∙◌, arith, length-append}
+use Rattle.std.proofs.lemmas.Bool.Decides.{nat_tests}
 use Rattle.nuc_io.specs.Reading.{Took}
-use Rattle.nuc_io.specs.Line.{LineData, IsOneLine, IsWhole, line_text}
-use Rattle.nuc_script.specs.Text.{command_line, command_text}
-use Rattle.nuc_script.specs.Grammar.{IsCommand, MayFollow}
-use Rattle.nuc_script.specs.Reading.{IsCutLine, by_lf, by_end}
-use Rattle.nuc_script.specs.Steps.{ReadsNext, JudgesLine}
+use Rattle.nuc_io.specs.Line.{LineData, IsWhole, line_text}
 use Rattle.nuc_script.specs.declared.command.Command.{Command}
 use Rattle.nuc_script.specs.declared.read.Next.{Next}
 use Rattle.nuc_script.specs.declared.read.Next.TheVariants as next
-use Rattle.nuc_script.proofs.Words.{line_unique}
+use Rattle.nuc_script.specs.Lines.{numbered_meaning}
+use Rattle.nuc_script.specs.Reading.{without_cr}
+use Rattle.nuc_script.specs.Steps.{JudgesWhole, judged_text, ReadsNext, IsFaulty, faulty_lf, faulty_end}
 
--- bytes without LF are no text of a command
-pub no_lf : (bytes : List ℕ) → IsOneLine bytes → (c : Command) → bytes ≢ command_text c
-no_lf bytes one_line c same =
-    let line = command_line c in
-    let within : length line < length bytes = omega (arith, ap length same, length-append line (10 ∷ [])) in
-    one_line (length line) 0 within (ap (λ l. get_or l (length line) 0) same ∙ get_or_at line 10 [] 0 (length line) refl)
+pub cr_dropped : (front : List ℕ) → without_cr (front ++ 13 ∷ []) ≡ front
+cr_dropped [] = refl
+cr_dropped (b ∷ []) = refl
+cr_dropped (b ∷ next ∷ front) = ap (λ l. b ∷ l) (cr_dropped (next ∷ front))
 
--- a command that may not come stands in nobody's way
-pub not_here : (before : List Command) (c : Command) (text : List ℕ) → IsCommand c → text ≡ command_text c → ¬ (MayFollow before c)
-    → (d : Command) → IsCommand d → MayFollow before d → text ≢ command_text d
-not_here before c text is same not d is' may same' =
-    not (subst (MayFollow before) (sym (line_unique c d is is' (append_cancel_right (command_line c) (command_line d) (10 ∷ []) (sym same ∙ same')))) may)
+pub no_cr : (line : List ℕ) → ((front : List ℕ) → line ≢ front ++ 13 ∷ []) → without_cr line ≡ line
+no_cr [] none = refl
+no_cr (b ∷ []) none =
+    let other : b ≢ 13 = λ same. none [] (ap (λ x. x ∷ []) same) in
+    let test : (b == 13) ≡ false = grind (arith, nat_tests) in
+    rw test refl
+no_cr (b ∷ next ∷ bytes) none = ap (λ l. b ∷ l) (no_cr (next ∷ bytes) (λ front same. none (b ∷ front) (ap (λ l. b ∷ l) same)))
 
-cut_whole : (line : LineData) (rest : Option (List ℕ)) → IsWhole line rest → (ended : Bool) → line.ended ≡ ended → IsCutLine (line_text line) rest
-cut_whole line rest whole true ended = by_lf line.bytes whole.one_line whole.short (rw ended refl)
-cut_whole line rest whole false ended =
-    let same : line_text line ≡ line.bytes = rw ended refl in
-    subst (λ l. IsCutLine l rest) (sym same) (by_end whole.one_line (whole.open_end ended).0 whole.short (whole.open_end ended).1)
+text_ended : (line : LineData) → line.ended ≡ true → line_text line ≡ line.bytes ++ 10 ∷ []
+text_ended line ended = rw ended refl
+
+text_open : (line : LineData) → line.ended ≡ false → line_text line ≡ line.bytes
+text_open line ended = rw ended refl
 
 line_len : (line : LineData) → (ended : Bool) → line.ended ≡ ended → length (line_text line) ≤ length line.bytes + 1
-line_len line true ended =
-    let same : line_text line ≡ line.bytes ++ 10 ∷ [] = rw ended refl in
-    omega (arith, ap length same, length-append line.bytes (10 ∷ []))
-line_len line false ended =
-    let same : line_text line ≡ line.bytes = rw ended refl in
-    omega (arith, ap length same)
+line_len line true ended = omega (arith, ap length (text_ended line ended), length-append line.bytes (10 ∷ []))
+line_len line false ended = omega (arith, ap length (text_open line ended))
 
-pub judged : (before : List Command) (left : Option (List ℕ)) (line : LineData) (rest : Option (List ℕ)) (r : Next) → IsWhole line rest → Took left (line_text line) rest
-    → JudgesLine before (line_text line) r → ReadsNext before left r rest
-judged before left line rest (next.Command c) whole took (is, may, same) = (is, may, subst (λ l. Took left l rest) same took)
-judged before left line rest next.End whole took never = absurd never
-judged before left line rest (next.Fault kind) whole took (not_built, none) =
-    (not_built, (line_text line, cut_whole line rest whole line.ended refl, took, none))
-judged before left line rest next.ReadFault whole took never = absurd never
-judged before left line rest next.Memory whole took _ =
-    (line_text line, omega (arith, line_len line line.ended refl, whole.short), took)
+pub judged : (number : ℕ) (before : List Command) (left : Option (List ℕ)) (line : LineData) (rest : Option (List ℕ)) (r : Next) → IsWhole line rest
+    → Took left (line_text line) rest → JudgesWhole line.ended (numbered_meaning number before (judged_text line.ended line.bytes)) r
+    → ReadsNext number before left r rest
+judged number before left line rest (next.Line found) whole took (ended, meaning) = (
+  line.bytes,
+  whole.one_line,
+  whole.short,
+  subst (λ l. Took left l rest) (text_ended line ended) took,
+  ap (λ t. numbered_meaning number before (judged_text t line.bytes)) (sym ended) ∙ meaning,
+)
+judged number before left line rest (next.Last found) whole took (ended, meaning) = (
+  line.bytes,
+  whole.one_line,
+  (whole.open_end ended).0,
+  whole.short,
+  subst (λ l. Took left l rest) (text_open line ended) took,
+  (whole.open_end ended).1,
+  ap (λ t. numbered_meaning number before (judged_text t line.bytes)) (sym ended) ∙ meaning,
+)
+judged number before left line rest next.End whole took never = absurd never
+judged number before left line rest (next.Fault kind) whole took meaning = (
+  line_text line,
+  elim line.ended as (λ t. line.ended ≡ t → IsFaulty number before kind (line_text line) rest) [
+    | true ↦ λ ended. faulty_lf line.bytes whole.one_line whole.short (text_ended line ended)
+        (ap (λ t. numbered_meaning number before (judged_text t line.bytes)) (sym ended) ∙ meaning)
+    | false ↦ λ ended. subst (λ l. IsFaulty number before kind l rest) (sym (text_open line ended))
+        (faulty_end whole.one_line (whole.open_end ended).0 whole.short (whole.open_end ended).1
+        (ap (λ t. numbered_meaning number before (judged_text t line.bytes)) (sym ended) ∙ meaning))
+  ] refl,
+  took,
+)
+judged number before left line rest next.ReadFault whole took never = absurd never
+judged number before left line rest next.Memory whole took _ = (line_text line, omega (arith, line_len line line.ended refl, whole.short), took)

@@ -1,83 +1,85 @@
--- Scripts grow at their end.
-use Rattle.std.proofs.Common.{◌≡◌, ◌≢◌, ℕ, ◌+◌, ◌≤◌, List, [], ◌∷◌, ◌++◌, length, map, Option, refl, sym, ap, subst, ◌∙◌, arith, append_assoc, length-append}
-use Rattle.std.specs.List.{concat, AllByRecursion}
-use Rattle.std.proofs.lemmas.List.{append-nil}
-use Rattle.nuc_io.specs.Reading.{Took}
-use Rattle.nuc_io.proofs.Taking.{took_more, took_none}
-use Rattle.nuc_script.specs.Text.{command_line, command_text, script_text}
-use Rattle.nuc_script.specs.Grammar.{IsCommand, MayFollow, ComeBehind, IsScript}
-use Rattle.nuc_script.specs.Reading.{TookLines, IsCutLine, by_lf, by_end, cut_off, IsBadLine}
-use Rattle.nuc_script.specs.Steps.{TookLine}
+-- How the answer for a script goes on, line by line.
+use Rattle.std.proofs.Common.{◌≡◌, ◌≢◌, ℕ, suc, ◌+◌, ◌≤◌, ◌<◌, true, false, cond, ◌==◌, List, [], ◌∷◌, ◌++◌, length, Err, refl, sym, ap, ◌∙◌, arith, length-append}
+use Rattle.std.specs.Prelude.{nat_lt}
+use Rattle.std.specs.List.{onto_first}
+use Rattle.std.proofs.lemmas.List.Elements.{All-head, All-tail}
+use Rattle.std.proofs.lemmas.Bool.Decides.{nat_tests}
+use Rattle.nuc_io.specs.Line.{IsOneLine}
+use Rattle.nuc_script.specs.declared.fault.LineFault.TheVariants as fault
 use Rattle.nuc_script.specs.declared.command.Command.{Command}
+use Rattle.nuc_script.specs.declared.script_read.ScriptRead.TheVariants as read
+use Rattle.nuc_script.specs.Lines.{numbered_meaning, line_meaning}
+use Rattle.nuc_script.specs.Reading.{without_cr, goes_on, pieces, script_from}
+use Rattle.nuc_script.specs.Steps.{too_long}
+use Rattle.nuc_script.proofs.Cuts.{split_lacks, split_at}
 
-pub script_more : (cs : List Command) (c : Command) → script_text (cs ++ c ∷ []) ≡ script_text cs ++ command_text c
-script_more [] c = append-nil (command_text c)
-script_more (d ∷ cs) c = ap (λ l. command_text d ++ l) (script_more cs c) ∙ sym (append_assoc (command_text d) (script_text cs) (command_text c))
+-- a text has at least one piece
+some_pieces : (bytes : List ℕ) → (first : List ℕ) × (others : List (List ℕ)) × (pieces bytes ≡ first ∷ others)
+some_pieces [] = ([], [], refl)
+some_pieces (b ∷ bytes) =
+    let (first, others, same) = some_pieces bytes in
+    elim (b == 10) as (λ t. (f : List ℕ) × (o : List (List ℕ)) × (cond t ([] ∷ pieces bytes) (onto_first b (pieces bytes)) ≡ f ∷ o)) [
+      | true ↦ ([], pieces bytes, refl)
+      | false ↦ (b ∷ first, others, ap (onto_first b) same)
+    ]
 
-come_more : (before cs : List Command) (c : Command) → ComeBehind before cs → IsCommand c → MayFollow (before ++ cs) c → ComeBehind before (cs ++ c ∷ [])
-come_more before [] c come is may = (is, subst (λ l. MayFollow l c) (append-nil before) may, tt)
-come_more before (d ∷ cs) c (first, follows, come) is may =
-    (first, follows, come_more (before ++ d ∷ []) cs c come is (subst (λ l. MayFollow l c) (sym (append_assoc before (d ∷ []) cs)) may))
+-- a line and its LF
+pub line_step : (number : ℕ) (before : List Command) (text more : List ℕ) → IsOneLine text
+    → script_from number before (pieces (text ++ 10 ∷ more))
+    ≡ goes_on number before (numbered_meaning number before (without_cr text)) (λ commands. script_from (number + 1) commands (pieces more))
+unfolding script_from
+line_step number before text more one_line =
+    let (first, others, same) = some_pieces more in
+    ap (script_from number before) (split_at 10 text more one_line ∙ ap (λ l. text ∷ l) same)
+    ∙ sym (ap (λ l. goes_on number before (numbered_meaning number before (without_cr text)) (λ commands. script_from (number + 1) commands l)) same)
 
-come_last : (before cs : List Command) (c : Command) → ComeBehind before (cs ++ c ∷ []) → IsCommand c × MayFollow (before ++ cs) c
-come_last before [] c (is, may, _) = (is, subst (λ l. MayFollow l c) (sym (append-nil before)) may)
-come_last before (d ∷ cs) c (first, follows, come) =
-    let (is, may) = come_last (before ++ d ∷ []) cs c come in
-    (is, subst (λ l. MayFollow l c) (append_assoc before (d ∷ []) cs) may)
+-- a last line without LF
+pub last_step : (number : ℕ) (before : List Command) (text : List ℕ) → IsOneLine text → 0 < length text
+    → script_from number before (pieces text) ≡ goes_on number before (numbered_meaning number before text) (λ commands. read.Commands commands)
+unfolding script_from
+last_step number before text one_line some =
+    let test : (length text == 0) ≡ false = grind (arith, nat_tests) in
+    ap (script_from number before) (split_lacks 10 text one_line) ∙ rw test refl
 
-pub script_grows : (cs : List Command) (c : Command) → IsScript cs → IsCommand c → MayFollow cs c → IsScript (cs ++ c ∷ [])
-script_grows cs c script is may = come_more [] cs c script is may
+pub end_step : (number : ℕ) (before : List Command) → script_from number before (pieces []) ≡ read.Commands before
+unfolding script_from
+end_step number before = refl
 
-pub script_last : (cs : List Command) (c : Command) → IsScript (cs ++ c ∷ []) → IsCommand c × MayFollow cs c
-script_last cs c script = come_last [] cs c script
+-- LINES THAT ARE TOO LONG
+long_meaning : (number : ℕ) (before : List Command) (line : List ℕ) → 4096 < length line → numbered_meaning number before line ≡ Err (too_long number)
+unfolding line_meaning
+long_meaning number before line long =
+    let test : nat_lt 4096 (length line) ≡ true = grind (arith, nat_tests) in
+    elim (nat_lt 1000000 number) as (λ t. cond t (Err fault.Many) (line_meaning before line) ≡ Err (cond t fault.Many fault.Long)) [ true ↦ refl | false ↦ rw test refl ]
 
--- a script has at most 1,000 commands
-come_short : (before cs : List Command) → ComeBehind before cs → length before ≤ 1000 → length (before ++ cs) ≤ 1000
-come_short before [] come short = omega (arith, short, length-append before [])
-come_short before (c ∷ cs) (is, may, come) short =
-    subst (λ l. length l ≤ 1000) (append_assoc before (c ∷ []) cs)
-    (come_short (before ++ c ∷ []) cs come (omega (arith, may.0, length-append before (c ∷ []))))
+without_cr_len : (line : List ℕ) → length line ≤ suc (length (without_cr line))
+without_cr_len [] = omega arith
+without_cr_len (b ∷ []) = elim (b == 13) as (λ t. 1 ≤ suc (length (cond t [] (b ∷ [])))) [ true ↦ omega arith | false ↦ omega arith ]
+without_cr_len (b ∷ next ∷ bytes) = let rest = without_cr_len (next ∷ bytes) in omega (arith, rest)
 
-pub script_short : (cs : List Command) → IsScript cs → length cs ≤ 1000
-script_short cs script = come_short [] cs script (omega arith)
+-- bytes without LF stand in front of the first piece
+front_piece : (text more first : List ℕ) (others : List (List ℕ)) → IsOneLine text → pieces more ≡ first ∷ others → pieces (text ++ more) ≡ (text ++ first) ∷ others
+front_piece [] more first others one_line same = same
+front_piece (b ∷ text) more first others one_line same =
+    let other : b ≢ 10 = All-head (λ x. x ≢ 10) b text one_line in
+    let test : (b == 10) ≡ false = grind (arith, nat_tests) in
+    let rest = front_piece text more first others (All-tail (λ x. x ≢ 10) b text one_line) same in
+    rw test (ap (onto_first b) rest)
 
-pub line_short : (c : Command) → IsCommand c → length (command_text c) ≤ 4098
-line_short c is = omega (arith, is.short, length-append (command_line c) (10 ∷ []))
+long_first : (number : ℕ) (before : List Command) (line : List ℕ) (others : List (List ℕ)) → 4098 ≤ length line
+    → script_from number before (line ∷ others) ≡ read.Fault number (too_long number)
+unfolding script_from
+long_first number before line [] long =
+    let test : (length line == 0) ≡ false = grind (arith, nat_tests) in
+    let meaning = long_meaning number before line (omega arith) in
+    rw (test, meaning) refl
+long_first number before line (next ∷ others) long =
+    let meaning = long_meaning number before (without_cr line) (omega (arith, without_cr_len line)) in
+    rw meaning refl
 
-lines_short : (before cs : List Command) (part : List ℕ) → ComeBehind before cs → length part ≤ 4098
-    → AllByRecursion (λ line. length line ≤ 4098) (map command_text cs ++ part ∷ [])
-lines_short before [] part come short = (short, tt)
-lines_short before (c ∷ cs) part (is, may, come) short = (line_short c is, lines_short (before ++ c ∷ []) cs part come short)
-
-lines_text : (cs : List Command) (part : List ℕ) → script_text cs ++ part ≡ concat (map command_text cs ++ part ∷ [])
-lines_text [] part = sym (append-nil part)
-lines_text (c ∷ cs) part = append_assoc (command_text c) (script_text cs) part ∙ ap (λ l. command_text c ++ l) (lines_text cs part)
-
-lines_count : (cs : List Command) (part : List ℕ) → length (map command_text cs ++ part ∷ []) ≡ length cs + 1
-lines_count [] part = refl
-lines_count (c ∷ cs) part = omega (arith, lines_count cs part)
-
-pub few_lines : (left : Option (List ℕ)) (cs : List Command) (between rest : Option (List ℕ)) → IsScript cs → Took left (script_text cs) between
-    → TookLine between rest → TookLines 1000001 left rest
-few_lines left cs between rest script first (line, short, second) = (
-  map command_text cs ++ line ∷ [],
-  omega (arith, lines_count cs line, script_short cs script),
-  lines_short [] cs line script short,
-  subst (λ l. Took left l rest) (lines_text cs line) (took_more left (script_text cs) line between rest first second),
-)
-
--- a line that is cut is short enough
-pub cut_short : (line : List ℕ) (rest : Option (List ℕ)) → IsCutLine line rest → length line ≤ 4098
-cut_short line rest (by_lf text one_line short same) = omega (arith, short, ap length same, length-append text (10 ∷ []))
-cut_short line rest (by_end one_line some short ends) = omega (arith, short)
-cut_short line rest (cut_off one_line long) = omega (arith, long)
-
-pub bad_line : (cs : List Command) (line : List ℕ) (rest : Option (List ℕ)) → IsCutLine line rest
-    → ((c : Command) → IsCommand c → MayFollow cs c → line ≢ command_text c) → IsBadLine cs line rest
-bad_line cs line rest cut none = record {
-  cut = cut;
-  no_command = λ c script. let (is, may) = script_last cs c script in none c is may;
-}
-
-pub took_no_line : (left rest : Option (List ℕ)) → rest ≡ left → TookLine left rest
-took_no_line left rest same = ([], omega arith, subst (λ o. Took left [] o) (sym same) (took_none left))
+pub long_step : (number : ℕ) (before : List Command) (text more : List ℕ) → IsOneLine text → length text ≡ 4098
+    → script_from number before (pieces (text ++ more)) ≡ read.Fault number (too_long number)
+long_step number before text more one_line long =
+    let (first, others, same) = some_pieces more in
+    ap (script_from number before) (front_piece text more first others one_line same)
+    ∙ long_first number before (text ++ first) others (omega (arith, long, length-append text first))

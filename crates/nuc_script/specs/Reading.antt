@@ -1,59 +1,40 @@
--- What the reading of a script takes from its source.
-use Rattle.std.specs.Prelude.{◌≡◌, ◌≢◌, ℕ, ◌+◌, ◌<◌, ◌≤◌, List, [], ◌∷◌, ◌++◌, length, Option, Some}
-use Rattle.std.specs.List.{concat, AllByRecursion}
-use Rattle.nuc_base.specs.declared.fault.LineFault.TheVariants.{NotBuilt}
-use Rattle.nuc_io.specs.Reading.{Took, AtEnd}
-use Rattle.nuc_io.specs.Line.{IsOneLine}
-use Rattle.nuc_script.specs.Text.{command_text, script_text}
-use Rattle.nuc_script.specs.Grammar.{IsScript}
+-- What the bytes of a script mean.
+use Rattle.std.specs.Prelude.{ℕ, ◌+◌, ◌==◌, List, [], ◌∷◌, ◌++◌, length, Option, Some, None, Result, Ok, Err, if◌then◌else◌}
+use Rattle.std.specs.List.{slice_split}
+use Rattle.nuc_script.specs.declared.fault.LineFault.{LineFault}
 use Rattle.nuc_script.specs.declared.command.Command.{Command}
 use Rattle.nuc_script.specs.declared.script_read.ScriptRead.{ScriptRead}
 use Rattle.nuc_script.specs.declared.script_read.ScriptRead.TheVariants as read
+use Rattle.nuc_script.specs.Lines.{numbered_meaning}
 
--- a line as it is cut from the bytes: up to its LF, up to the end, or off after 4,098 bytes
-pub data IsCutLine (line : List ℕ) (rest : Option (List ℕ)) : Type 0 where
-  by_lf : (text : List ℕ) → IsOneLine text → length text ≤ 4097 → line ≡ text ++ 10 ∷ [] → IsCutLine line rest
-  by_end : IsOneLine line → 0 < length line → length line ≤ 4097 → AtEnd rest → IsCutLine line rest
-  cut_off : IsOneLine line → length line ≡ 4098 → IsCutLine line rest
+-- a line without the one CR before its LF
+abbrev pub without_cr : List ℕ → List ℕ
+without_cr [] = []
+without_cr (b ∷ []) = if b == 13 then [] else (b ∷ [])
+without_cr (b ∷ next ∷ bytes) = b ∷ without_cr (next ∷ bytes)
 
--- a line that is none of a script behind these commands
-pub record IsBadLine (cs : List Command) (line : List ℕ) (rest : Option (List ℕ)) : Type 0 where
-  pub cut : IsCutLine line rest
-  pub no_command : (c : Command) → IsScript (cs ++ c ∷ []) → line ≢ command_text c
+abbrev pub added : List Command → Option Command → List Command
+added before None = before
+added before (Some command) = before ++ command ∷ []
 
--- by the answer: what was left and is. A fault has the number of its line, from 1
-abbrev pub ReadsScript : Option (List ℕ) → ScriptRead → Option (List ℕ) → Type 0
-ReadsScript left (read.Commands cs) rest = IsScript cs × Took left (script_text cs) rest × AtEnd rest
-ReadsScript left (read.Fault number kind) rest =
-    (kind ≡ NotBuilt) × ((cs : List Command) × (line : List ℕ) × IsScript cs × (number ≡ length cs + 1) × IsBadLine cs line rest
-    × Took left (script_text cs ++ line) rest)
-ReadsScript left read.ReadFault rest = Unit {0}
-ReadsScript left read.Memory rest = Unit {0}
+-- the first fault is the answer; else what comes later is
+abbrev pub goes_on : ℕ → List Command → Result (Option Command) LineFault → (List Command → ScriptRead) → ScriptRead
+goes_on number before (Ok found) later = later (added before found)
+goes_on number before (Err kind) later = read.Fault number kind
 
--- so many lines were taken at most, each of at most 4,098 bytes with its LF
-abbrev pub TookLines : ℕ → Option (List ℕ) → Option (List ℕ) → Type 0
-TookLines most left rest =
-    (lines : List (List ℕ)) × (length lines ≤ most) × AllByRecursion (λ line. length line ≤ 4098) lines × Took left (concat lines) rest
+-- what stands between the LFs of a text: its lines, and what is left behind the last LF
+abbrev pub pieces : List ℕ → List (List ℕ)
+pieces bytes = slice_split (λ b. b == 10) bytes
 
-abbrev pub IsCommands : ScriptRead → Type 0
-IsCommands (read.Commands cs) = Unit {0}
-IsCommands (read.Fault number kind) = ⊥
-IsCommands read.ReadFault = ⊥
-IsCommands read.Memory = ⊥
+-- the answer for these lines, from this number on, behind the commands before; what is left at the end is a line where it isn't empty
+unfoldable pub script_from : ℕ → List Command → List (List ℕ) → ScriptRead
+script_from number before [] = read.Commands before
+script_from number before (last ∷ []) =
+    if length last == 0 then read.Commands before
+    else goes_on number before (numbered_meaning number before last) (λ commands. read.Commands commands)
+script_from number before (line ∷ next ∷ lines) =
+    goes_on number before (numbered_meaning number before (without_cr line)) (λ commands. script_from (number + 1) commands (next ∷ lines))
 
--- a script or a fault of one of its lines
-abbrev pub IsAnswered : ScriptRead → Type 0
-IsAnswered (read.Commands cs) = Unit {0}
-IsAnswered (read.Fault number kind) = Unit {0}
-IsAnswered read.ReadFault = ⊥
-IsAnswered read.Memory = ⊥
-
--- what was left and what is left admit one answer
-abbrev pub OneReading : Type 0
-OneReading = (left rest : List ℕ) (a b : ScriptRead) → IsAnswered a → IsAnswered b
-    → ReadsScript (Some left) a (Some rest) → ReadsScript (Some left) b (Some rest) → a ≡ b
-
--- a source that has a script gives its commands
-abbrev pub EveryScriptIsRead : Type 0
-EveryScriptIsRead = (rest : List ℕ) (cs : List Command) (a : ScriptRead) → IsScript cs → IsAnswered a
-    → ReadsScript (Some (script_text cs)) a (Some rest) → a ≡ read.Commands cs
+-- the answer for these bytes: their commands, or the first faulty line
+abbrev pub script_of : List ℕ → ScriptRead
+script_of bytes = script_from 1 [] (pieces bytes)

@@ -1,22 +1,29 @@
-//! Scripts: a line for each command, read strictly.
+//! Scripts: a line for each command, read to the first faulty line.
 #![tactic(auto)]
 
+mod arguments;
 mod command;
-mod follow;
+mod commands;
+mod content;
+mod cut;
+mod edits;
+mod escape;
+mod fault;
 mod line;
+mod number;
 mod path;
-mod plain;
+mod print;
+mod print_words;
 mod read;
 mod script_read;
-mod web;
-mod word;
-mod written;
+mod verb;
+mod words;
 
 pub use command::Command;
+pub use fault::LineFault;
+pub use print::{is_read_again, print_script};
 pub use read::read_script;
-pub use script_read::{ScriptRead, is_read_in_one_way, is_read_where_it_is_a_script};
+pub use script_read::{ScriptRead, has_fitting_commands, is_read_in_one_way};
 
 #[cfg(test)]
 mod tests;
-#[cfg(test)]
-mod web_tests;

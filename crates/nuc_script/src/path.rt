@@ -1,56 +1,44 @@
-ghost use Rattle.std.specs.Prelude.{◌≡◌, ◌++◌, All, IfOk, MatchBool, MatchOption};
-ghost use Rattle.nuc_base.specs.Names.{IsName};
-ghost use Rattle.nuc_script.specs.Parts.{IsNameByte, PathMeans, StartsOther};
+ghost use Rattle.std.specs.Prelude.{◌≡◌, IfOk};
+ghost use Rattle.nuc_script.specs.Paths.{names_in, name_in, path_of, pieces};
 
-use crate::plain::is_plain_byte;
-use crate::word::behind;
+use crate::cut::cut;
 use nuc_base::{Name, NameFault, Path};
 use sqlite_items::Items;
 use std::alloc::{AllocError, Global};
 
-/// The path that the text is, if it is one: a `/` and a name, once or more.
-pub fn parse_path(alloc: Global, text: &[u8]) -> Result<Option<Path>, AllocError>
-    ensures { IfOk result (λ found. PathMeans text.now found) }
+/// The path that the bytes are, if they are one: a `/` and a name, once or more.
+pub(crate) fn path_of(alloc: Global, bytes: &[u8]) -> Result<Option<Path>, AllocError>
+    ensures { IfOk result (λ found. found ≡ path_of bytes.now) }
+{
+    let Some((b'/', text)) = bytes.split_first() else {
+        return Ok(None);
+    };
+    match names_in(alloc, text)? {
+        Some(names) => Ok(Some(Path { names })),
+        None => Ok(None),
+    }
+}
+
+/// What stands between the slashes, where each is a name.
+fn names_in(alloc: Global, text: &[u8]) -> Result<Option<Items<Name>>, AllocError>
+    ensures { IfOk result (λ found. found ≡ names_in (pieces text.now)) }
 {
     let mut names = Items::new(alloc);
-    let mut rest = text;
-    while let Some(from) = behind(rest, b"/") {
-        let (bytes, more) = cut_name(from);
-        let Some(name) = name_of(alloc, bytes)? else {
+    let mut rest = Some(text);
+    while let Some(text) = rest {
+        let (piece, behind) = cut(text, b'/');
+        let Some(name) = name_in(alloc, piece)? else {
             return Ok(None);
         };
         names.push(name)?;
-        rest = more;
+        rest = behind;
     }
-    if names.is_empty() || !rest.is_empty() {
-        return Ok(None);
-    }
-    Ok(Some(Path { names }))
-}
-
-/// Cuts the text before the first byte that can't stand in a name of a script.
-fn cut_name(text: &[u8]) -> (&[u8], &[u8])
-    ensures all { text.now ≡ result.0.now ++ result.1.now }
-    ensures front { All IsNameByte result.0.now }
-    ensures rest { StartsOther IsNameByte result.1.now }
-{
-    for (i, byte) in text.iter().enumerate() {
-        if !is_name_byte(*byte) {
-            return text.split_at(i);
-        }
-    }
-    text.split_at(text.len())
-}
-
-fn is_name_byte(byte: u8) -> bool
-    ensures { MatchBool result (IsNameByte byte) (¬ (IsNameByte byte)) }
-{
-    is_plain_byte(byte) && byte != b'/'
+    Ok(Some(names))
 }
 
 /// The name of these bytes, if they are one.
-fn name_of(alloc: Global, bytes: &[u8]) -> Result<Option<Name>, AllocError>
-    ensures { IfOk result (λ found. MatchOption found (¬ (IsName bytes.now)) (λ name. (name ≡ bytes.now) × IsName bytes.now)) }
+fn name_in(alloc: Global, bytes: &[u8]) -> Result<Option<Name>, AllocError>
+    ensures { IfOk result (λ found. found ≡ name_in bytes.now) }
 {
     match Name::new(alloc, bytes) {
         Ok(name) => Ok(Some(name)),

@@ -1,24 +1,17 @@
-ghost use Rattle.std.specs.Prelude.{◌≡◌, ◌≤◌, ℕ, false, length, IfOk};
+ghost use Rattle.std.specs.Prelude.{◌≡◌, false, OnOk};
 ghost use Rattle.nuc_io.specs.Causes.{HasCause};
-ghost use Rattle.nuc_io.specs.Line.{line_text, IsOneLine};
-ghost use Rattle.nuc_script.specs.Grammar.{IsCommand};
-ghost use Rattle.nuc_script.specs.Reading.{ReadsScript, TookLines, IsCommands};
-ghost use Rattle.nuc_script.specs.Steps.{Says, ReadsNext, JudgesLine, IsNextCommand};
-ghost use Rattle.nuc_script.specs.Text.{command_text};
+ghost use Rattle.nuc_io.specs.Line.{IsOneLine};
+ghost use Rattle.nuc_script.specs.Lines.{numbered_meaning};
+ghost use Rattle.nuc_script.specs.Reading.{added, without_cr};
+ghost use Rattle.nuc_script.specs.Taking.{IsCommands, ReadsScript, TookLines};
+ghost use Rattle.nuc_script.specs.Steps.{IsEnd, IsLine, IsStop, JudgesWhole, ReadsNext, judged_text, too_long};
 
-use crate::follow::may_follow;
-use crate::line::parse_line;
-use crate::{Command, ScriptRead};
-use nuc_base::LineFault;
+use crate::fault::Stop;
+use crate::line::{MOST_LINES, judge};
+use crate::{Command, LineFault, ScriptRead};
 use nuc_io::{Line, LineBuf, Source, read_line};
 use sqlite_items::Items;
 use std::alloc::{AllocError, Global};
-
-/// The most bytes of a line before its LF.
-const LONGEST: usize = 4096;
-
-/// The most lines that are read.
-const MOST_LINES: u64 = 1_000_001;
 
 /// Reads a script to the end of the source, or up to its first faulty line.
 pub fn read_script<S: Source>(alloc: Global, src: &mut S) -> ScriptRead
@@ -29,12 +22,18 @@ pub fn read_script<S: Source>(alloc: Global, src: &mut S) -> ScriptRead
 {
     let mut line = LineBuf::new(alloc);
     let mut commands = Vec::new(alloc);
-    for count in 0..MOST_LINES {
-        match next_command(alloc, src, &mut line, &commands) {
-            Next::Command(command) => {
-                if commands.push(command).is_err() {
+    for count in 0..MOST_LINES + 1 {
+        match next_line(alloc, src, &mut line, count + 1, &commands) {
+            Next::Line(found) => {
+                if add(&mut commands, found).is_err() {
                     return ScriptRead::Memory;
                 }
+            }
+            Next::Last(found) => {
+                if add(&mut commands, found).is_err() {
+                    return ScriptRead::Memory;
+                }
+                return ScriptRead::Commands(Items::from_vec(commands));
             }
             Next::End => return ScriptRead::Commands(Items::from_vec(commands)),
             Next::Fault(kind) => {
@@ -47,36 +46,49 @@ pub fn read_script<S: Source>(alloc: Global, src: &mut S) -> ScriptRead
             Next::Memory => return ScriptRead::Memory,
         }
     }
-    // No script has so many commands.
+    // The line behind the last that may stand is faulty.
     unreachable!()
+}
+
+fn add(commands: &mut Vec<Command>, found: Option<Command>) -> Result<(), AllocError>
+    ensures { OnOk result (commands.new.items ≡ added commands.old.items found) }
+{
+    if let Some(command) = found {
+        commands.push(command)?;
+    }
+    Ok(())
 }
 
 /// What comes behind the commands before.
 #[derive(Drop)]
 enum Next {
-    Command(Command),
+    /// A line, and the command that it gives, if it gives one.
+    Line(Option<Command>),
+    /// The same, and the source ended without an LF.
+    Last(Option<Command>),
     End,
     Fault(LineFault),
     ReadFault,
     Memory,
 }
 
-fn next_command<S: Source>(
+fn next_line<S: Source>(
     alloc: Global,
     src: &mut S,
     line: &mut LineBuf,
+    number: u64,
     before: &[Command],
 ) -> Next
     requires { line.old.spent ≡ false }
-    ensures next { ReadsNext before.now (S.left src.old) result (S.left src.new) }
-    ensures goes_on { IsNextCommand result → line.new.spent ≡ false }
-    ensures end { result ≡ Next.End → S.ended src.new }
+    ensures next { ReadsNext number before.now (S.left src.old) result (S.left src.new) }
+    ensures goes_on { IsLine result → line.new.spent ≡ false }
+    ensures end { IsEnd result → S.ended src.new }
     ensures cause { HasCause (S.faults src.old) (S.faults src.new) (result ≡ Next.ReadFault) }
 {
     match read_line(src, line) {
-        Line::Whole => judge(alloc, line, before),
+        Line::Whole => judge_whole(alloc, number, before, line),
         Line::End => Next::End,
-        Line::TooLong => Next::Fault(LineFault::NotBuilt),
+        Line::TooLong => Next::Fault(too_long(number)),
         Line::ReadFault => Next::ReadFault,
         Line::Memory => Next::Memory,
         // The reading stops at the first answer that spends the buffer.
@@ -84,37 +96,49 @@ fn next_command<S: Source>(
     }
 }
 
-/// What a whole line is behind the commands before.
-fn judge(alloc: Global, line: &LineBuf, before: &[Command]) -> Next
-    requires { IsOneLine line.now.bytes }
-    ensures { JudgesLine before.now (line_text line.now) result }
+/// The first fault of a line that is too long.
+fn too_long(number: u64) -> LineFault
+    ensures { result ≡ too_long number }
 {
-    match command_of(alloc, line) {
-        Ok(Some(command)) => placed(before, command),
-        Ok(None) => Next::Fault(LineFault::NotBuilt),
-        Err(AllocError) => Next::Memory,
-    }
-}
-
-/// What a command's line is behind the commands before.
-fn placed(before: &[Command], command: Command) -> Next
-    requires { IsCommand command }
-    ensures { JudgesLine before.now (command_text command) result }
-{
-    if may_follow(before, &command) {
-        Next::Command(command)
+    if number > MOST_LINES {
+        LineFault::Many
     } else {
-        Next::Fault(LineFault::NotBuilt)
+        LineFault::Long
     }
 }
 
-/// The command that a whole line gives, if it gives one.
-fn command_of(alloc: Global, line: &LineBuf) -> Result<Option<Command>, AllocError>
-    requires { IsOneLine line.now.bytes }
-    ensures { IfOk result (λ found. Says (line_text line.now) found) }
+/// What a whole line gives behind the commands before.
+fn judge_whole(alloc: Global, number: u64, before: &[Command], line: &LineBuf) -> Next
+    ensures { JudgesWhole line.now.ended (numbered_meaning number before.now (judged_text line.now.ended line.now.bytes)) result }
 {
-    if !line.ended() || line.bytes().len() > LONGEST {
-        return Ok(None);
+    if line.ended() {
+        match judge(alloc, number, before, without_cr(line.bytes())) {
+            Ok(found) => Next::Line(found),
+            Err(stop) => stopped(stop),
+        }
+    } else {
+        match judge(alloc, number, before, line.bytes()) {
+            Ok(found) => Next::Last(found),
+            Err(stop) => stopped(stop),
+        }
     }
-    parse_line(alloc, line.bytes())
+}
+
+fn stopped(stop: Stop) -> Next
+    ensures { IsStop stop result }
+{
+    match stop {
+        Stop::Fault(kind) => Next::Fault(kind),
+        Stop::Memory => Next::Memory,
+    }
+}
+
+/// A line without the one CR before its LF.
+fn without_cr(line: &[u8]) -> &[u8]
+    ensures { result.now ≡ without_cr line.now }
+{
+    match line.strip_suffix(b"\r") {
+        Some(front) => front,
+        None => line,
+    }
 }

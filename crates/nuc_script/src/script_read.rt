@@ -1,7 +1,7 @@
-ghost use Rattle.nuc_script.specs.Reading.{EveryScriptIsRead, OneReading};
+ghost use Rattle.nuc_script.specs.Fitting.{EveryScriptFits};
+ghost use Rattle.nuc_script.specs.Taking.{OneReading};
 
-use crate::Command;
-use nuc_base::LineFault;
+use crate::{Command, LineFault};
 use sqlite_items::Items;
 
 /// How the reading of a script is answered.
@@ -9,19 +9,19 @@ use sqlite_items::Items;
 pub enum ScriptRead {
     /// All of it, to the end of the source.
     Commands(Items<Command>),
-    /// The first line that isn't one of a script, with its number from 1.
+    /// The first faulty line, with its number from 1.
     Fault { line: u64, kind: LineFault },
     /// The source failed.
     ReadFault,
     Memory,
 }
 
-/// The bytes that were taken and those that are left decide a script and a fault of its lines.
+/// Where a source tells its bytes, commands and faults are those of all of its bytes.
 pub fn is_read_in_one_way()
     ensures { OneReading }
 {}
 
-/// A source that has a script gives its commands, where no read fails and memory suffices.
-pub fn is_read_where_it_is_a_script()
-    ensures { EveryScriptIsRead }
+/// The commands of a script keep to their bounds: clients, numbers, names and the bytes of a content.
+pub fn has_fitting_commands()
+    ensures { EveryScriptFits }
 {}
