@@ -9,6 +9,7 @@ use Rattle.nuc_class.specs.Wishes.{AllEqual, IsWish}
 use Rattle.nuc_class.specs.declared.wishes.Wish.{Wish}
 use Rattle.nuc_class.specs.declared.wishes.Wish.TheVariants as wish
 use Rattle.nuc_conflict.specs.Laws.{MendOrEqual}
+use Rattle.nuc_conflict.specs.Remedies.{IsUpClear}
 use Rattle.nuc_conflict.proofs.Calm.{going_local_parts, going_remote_parts, not_only_synced}
 use Rattle.nuc_conflict.proofs.Downs.{no_down, wish_of}
 use Rattle.nuc_conflict.proofs.Stuck.{Stuck, not_cut_down, not_cut_up, not_forget}
@@ -21,15 +22,15 @@ parent_there m x y n form off at child = elim (form.parents y n at) [
   | inr (p, there, is) ↦ (p, subst (λ z. get m z ≡ Some p) child there)
 ]
 
-module _ (same : ℕ → ℕ → Bool) (r l s : Nodes) (st : Stuck same r l s) where
+module _ (same : ℕ → ℕ → Bool) (r l s : Nodes) (st : Stuck same r l s) (clear_up : IsUpClear same r l s) where
   -- x has a wish
   abbrev Wanting : ℕ → Type 0
   Wanting x = (w : Wish) × IsWish same r l s x w × (w ≢ wish.Nothing)
 
   equal_by : (x : ℕ) → ¬ (Wanting x) → (w : Wish) → IsWish same r l s x w → AllEqual (get r x) (get l x) (get s x)
-  equal_by x none wish.Split wished = absurd (st.none.split x wished)
+  equal_by x none wish.Split wished = absurd (st.split x wished)
   equal_by x none wish.Down wished = absurd (no_down same r l s st x wished)
-  equal_by x none wish.Up wished = absurd (no_up same r l s st x wished)
+  equal_by x none wish.Up wished = absurd (no_up same r l s st clear_up x wished)
   equal_by x none wish.CutDown wished = absurd (none (wish.CutDown, wished, λ e. cc))
   equal_by x none wish.CutUp wished = absurd (none (wish.CutUp, wished, λ e. cc))
   equal_by x none wish.Forget wished = absurd (none (wish.Forget, wished, λ e. cc))
@@ -39,9 +40,9 @@ module _ (same : ℕ → ℕ → Bool) (r l s : Nodes) (st : Stuck same r l s) w
   equal_of x none = let w = wish_of same r l s st x in equal_by x none w.0 w.1
 
   wanting_there : (x : ℕ) (w : Wish) → IsWish same r l s x w → w ≢ wish.Nothing → IsThere s x
-  wanting_there x wish.Split wished some = absurd (st.none.split x wished)
+  wanting_there x wish.Split wished some = absurd (st.split x wished)
   wanting_there x wish.Down wished some = absurd (no_down same r l s st x wished)
-  wanting_there x wish.Up wished some = absurd (no_up same r l s st x wished)
+  wanting_there x wish.Up wished some = absurd (no_up same r l s st clear_up x wished)
   wanting_there x wish.CutDown wished some = let parts = going_local_parts same r l s x wished in (parts.1, parts.3)
   wanting_there x wish.CutUp wished some = let parts = going_remote_parts same r l s x wished in (parts.1, parts.3)
   wanting_there x wish.Forget wished some = (not_only_synced (get r x) (get l x) (get s x) wished).2
@@ -57,9 +58,9 @@ module _ (same : ℕ → ℕ → Bool) (r l s : Nodes) (st : Stuck same r l s) w
         )
 
     child_in_local : get r x ≡ None → (y : ℕ) (k : Node) → get l y ≡ Some k → k.place.parent.0 ≡ x → (w : Wish) → ¬ (IsWish same r l s y w)
-    child_in_local gone y k at child wish.Split wished = st.none.split y wished
+    child_in_local gone y k at child wish.Split wished = st.split y wished
     child_in_local gone y k at child wish.Down wished = no_down same r l s st y wished
-    child_in_local gone y k at child wish.Up wished = no_up same r l s st y wished
+    child_in_local gone y k at child wish.Up wished = no_up same r l s st clear_up y wished
     child_in_local gone y k at child wish.CutDown wished =
         let parts = going_local_parts same r l s y wished in
         let one : parts.1 ≡ k = one_node l y parts.1 k parts.2 at in
@@ -70,9 +71,9 @@ module _ (same : ℕ → ℕ → Bool) (r l s : Nodes) (st : Stuck same r l s) w
         let there = (child_in_synced y k (sym wished.1 ∙ at) child).0 in not_both r x there.0 gone there.1
 
     child_in_remote : get l x ≡ None → (y : ℕ) (k : Node) → get r y ≡ Some k → k.place.parent.0 ≡ x → (w : Wish) → ¬ (IsWish same r l s y w)
-    child_in_remote gone y k at child wish.Split wished = st.none.split y wished
+    child_in_remote gone y k at child wish.Split wished = st.split y wished
     child_in_remote gone y k at child wish.Down wished = no_down same r l s st y wished
-    child_in_remote gone y k at child wish.Up wished = no_up same r l s st y wished
+    child_in_remote gone y k at child wish.Up wished = no_up same r l s st clear_up y wished
     child_in_remote gone y k at child wish.CutDown wished = not_both r y k (going_local_parts same r l s y wished).0 at
     child_in_remote gone y k at child wish.CutUp wished =
         let parts = going_remote_parts same r l s y wished in
@@ -87,9 +88,9 @@ module _ (same : ℕ → ℕ → Bool) (r l s : Nodes) (st : Stuck same r l s) w
     empty_in_synced (inr gone) y k at child = let there = (child_in_synced y k at child).1 in not_both l x there.0 gone there.1
 
     step_cut : (w : Wish) → IsWish same r l s x w → w ≢ wish.Nothing → ⊥
-    step_cut wish.Split wished some = st.none.split x wished
+    step_cut wish.Split wished some = st.split x wished
     step_cut wish.Down wished some = no_down same r l s st x wished
-    step_cut wish.Up wished some = no_up same r l s st x wished
+    step_cut wish.Up wished some = no_up same r l s st clear_up x wished
     step_cut wish.CutDown wished some =
         let parts = going_local_parts same r l s x wished in
         not_cut_down same r l s st x wished
@@ -132,5 +133,6 @@ mend_or_equal same r l s fit nothing none x =
       remote_synced = fit.remote_synced;
       local_synced = fit.local_synced;
       nothing = nothing;
-      none = none;
-    }) x
+      split = none.split;
+      down = none.down;
+    }) none.up x

@@ -1,4 +1,4 @@
--- Where nothing is due and no rule applies, nobody wishes Down.
+-- Where nothing is due and the first two rules don't apply, nobody wishes Down.
 use Rattle.std.proofs.Common.{◌≡◌, ◌⊎◌, ℕ, Bool, Option, None, Some, refl, sym, ap, subst, ◌∙◌, inl, inr}
 use Rattle.std.proofs.lemmas.Option.{same_Some}
 use Rattle.std.specs.FinMap.{get}
@@ -48,7 +48,7 @@ module _ (same : ℕ → ℕ → Bool) (r l s : Nodes) (st : Stuck same r l s) w
   module _ (x : ℕ) (n : Node) (at : get r x ≡ Some n) (top : IsTopmost same r l s r wish.Down x) where
     down_synced : IsFree s x n.place → LegalPut s x n
     down_synced free = legal_alike r s x n n st.remote st.synced st.remote_synced at
-        (λ a h under there. (h, above_synced same r l s st.remote st.local st.none.split x n at top a h under there, refl)) (same_place-refl n.place) refl free
+        (λ a h under there. (h, above_synced same r l s st.remote st.local st.split x n at top a h under there, refl)) (same_place-refl n.place) refl free
 
     not_going : ¬ (GoingRemote r l s x)
     not_going cut = absurd (let e : wish.Down ≡ wish.CutUp = one_wish same r l s x wish.Down wish.CutUp top.wished cut in cc)
@@ -57,15 +57,15 @@ module _ (same : ℕ → ℕ → Bool) (r l s : Nodes) (st : Stuck same r l s) w
     parent_stands : ¬ (Stays (get r x) (get l x) (get s x)) → IsFolder l n.place.parent.0
     parent_stands moved = elim (st.remote.parents x n at) [
       | inl root ↦ inl root
-      | inr (p, there, is) ↦ local p there is (calm_above same r l s st.remote st.local st.none.split x n at top n.place.parent.0 p here there)
+      | inr (p, there, is) ↦ local p there is (calm_above same r l s st.remote st.local st.split x n at top n.place.parent.0 p here there)
     ]
       where
-        local : (p : Node) → get r n.place.parent.0 ≡ Some p → p.kind ≡ Folder → Calm same r l s st.remote st.local st.none.split n.place.parent.0 p → IsFolder l n.place.parent.0
+        local : (p : Node) → get r n.place.parent.0 ≡ Some p → p.kind ≡ Folder → Calm same r l s st.remote st.local st.split n.place.parent.0 p → IsFolder l n.place.parent.0
         local p there is (stands own synced in_local) = inr (own, in_local, sym (st.remote_local n.place.parent.0 p own there in_local) ∙ is)
         local p there is (goes synced cut) = absurd (not_going (going-child l r s _ n.place.parent.0 x n cut at refl moved))
 
     clear : IsClearDown l s x n
-    clear = st.none.down x n top at
+    clear = st.down x n top at
 
     kind_is : (h : Node) → get l x ≡ Some h → h.kind ≡ (target n (get l x) (get s x)).kind
     kind_is h there = sym (st.remote_local x n h at there) ∙ sym (target_kind n (get l x) (get s x))

@@ -1,5 +1,6 @@
 pub mod Adoptions
 pub mod After
+pub mod Agreeing
 pub mod Blockers
 pub mod Calm
 pub mod Cuts

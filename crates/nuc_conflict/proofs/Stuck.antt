@@ -1,4 +1,4 @@
--- Trees in which nothing is due and no rule applies, and what an operation would be that is due.
+-- Trees in which nothing is due and the first two rules don't apply, and what an operation would be that is due.
 use Rattle.std.proofs.Common.{◌≡◌, ℕ, Bool, Some, refl, sym, subst}
 use Rattle.std.specs.FinMap.{get}
 use Rattle.nuc_base.specs.Legal.{LegalPut, LegalCut}
@@ -9,7 +9,8 @@ use Rattle.nuc_class.specs.Merge.{target}
 use Rattle.nuc_class.specs.Op.{operation}
 use Rattle.nuc_class.specs.Wishes.{IsWish}
 use Rattle.nuc_class.specs.declared.wishes.Wish.TheVariants as wish
-use Rattle.nuc_conflict.specs.Remedies.{NoRemedy}
+use Rattle.nuc_conflict.specs.Remedies.{IsDownClear}
+use Rattle.nuc_conflict.specs.Topmost.{NoSplit}
 
 pub record Stuck (same : ℕ → ℕ → Bool) (r l s : Nodes) : Type 0 where
   pub remote : WellFormed r
@@ -19,7 +20,8 @@ pub record Stuck (same : ℕ → ℕ → Bool) (r l s : Nodes) : Type 0 where
   pub remote_synced : OneKind r s
   pub local_synced : OneKind l s
   pub nothing : (x : ℕ) → NothingDue same r l s x
-  pub none : NoRemedy same r l s
+  pub split : NoSplit same r l s
+  pub down : IsDownClear same r l s
 
 module _ (same : ℕ → ℕ → Bool) (r l s : Nodes) (st : Stuck same r l s) (x : ℕ) where
   pub not_down : (n : Node) → get r x ≡ Some n → IsWish same r l s x wish.Down → LegalPut l x (target n (get l x) (get s x)) → ¬ (LegalPut s x n)

@@ -16,17 +16,17 @@ use Rattle.nuc_class.specs.declared.wishes.Wish.{Wish}
 use Rattle.nuc_class.specs.declared.wishes.Wish.TheVariants as wish
 use Rattle.nuc_class.proofs.Rows.{one_wish}
 use Rattle.nuc_class.proofs.Walk.{going-child}
-use Rattle.nuc_conflict.specs.Remedies.{IsClearUp}
+use Rattle.nuc_conflict.specs.Remedies.{IsClearUp, IsUpClear}
 use Rattle.nuc_conflict.specs.Topmost.{IsTopmost}
 use Rattle.nuc_conflict.proofs.Calm.{going_local_parts, going_remote_parts, not_only_synced, up_values}
 use Rattle.nuc_conflict.proofs.Downs.{no_down, wish_of}
 use Rattle.nuc_conflict.proofs.Search.{up_there}
 use Rattle.nuc_conflict.proofs.Stuck.{Stuck, not_up}
 
-module _ (same : ℕ → ℕ → Bool) (r l s : Nodes) (st : Stuck same r l s) where
+module _ (same : ℕ → ℕ → Bool) (r l s : Nodes) (st : Stuck same r l s) (clear_up : IsUpClear same r l s) where
   -- what stands in Remote and in Local is in Synced as it is in Remote
   unchanged_by : (x : ℕ) (n own : Node) → get r x ≡ Some n → get l x ≡ Some own → (w : Wish) → IsWish same r l s x w → get s x ≡ Some n
-  unchanged_by x n own at there wish.Split wished = absurd (st.none.split x wished)
+  unchanged_by x n own at there wish.Split wished = absurd (st.split x wished)
   unchanged_by x n own at there wish.Down wished = absurd (no_down same r l s st x wished)
   unchanged_by x n own at there wish.Up wished = (up_values _ (get r x) (get l x) (get s x) n at wished).0
   unchanged_by x n own at there wish.CutDown wished = absurd (not_both r x n (going_local_parts same r l s x wished).0 at)
@@ -60,7 +60,7 @@ module _ (same : ℕ → ℕ → Bool) (r l s : Nodes) (st : Stuck same r l s) w
 
     equal_by : (a : ℕ) (h : Node) → IsUnder l n.place.parent.0 a → get l a ≡ Some h → (w : Wish) → IsWish same r l s a w
         → (get r a ≡ Some h) × (get s a ≡ Some h)
-    equal_by a h under there wish.Split wished = absurd (st.none.split a wished)
+    equal_by a h under there wish.Split wished = absurd (st.split a wished)
     equal_by a h under there wish.Down wished = absurd (no_down same r l s st a wished)
     equal_by a h under there wish.Up wished = absurd (above_first l a x st.local (n, at, under) (top.first a wished))
     equal_by a h under there wish.CutDown wished = absurd (not_going (going_below a x (up x n at under) wished))
@@ -73,7 +73,7 @@ module _ (same : ℕ → ℕ → Bool) (r l s : Nodes) (st : Stuck same r l s) w
     equal_above a h under there = let w = wish_of same r l s st a in equal_by a h under there w.0 w.1
 
     clear : IsClearUp r s x n
-    clear = st.none.up x n top at
+    clear = clear_up x n top at
 
     up_remote : LegalPut r x n
     up_remote = legal_alike l r x n n st.local st.remote (one_kind-sym r l st.remote_local) at

@@ -92,6 +92,16 @@ impl Flights {
         true
     }
 
+    /// Whether the operation under this number is in flight and hasn't started.
+    pub fn is_planned(&self, number: u64) -> bool
+        ensures { MatchBool result (StandsAt number IsPlanned self.now.now) (¬ (StandsAt number IsPlanned self.now.now)) }
+    {
+        match position_at(&self.slots, number, Level::Planned) {
+            Some(_) => true,
+            None => false,
+        }
+    }
+
     /// Whether the operation under this number is in flight, started and not taken.
     pub fn is_started(&self, number: u64) -> bool
         ensures { MatchBool result (StandsAt number IsStarted self.now.now) (¬ (StandsAt number IsStarted self.now.now)) }

@@ -17,3 +17,4 @@ pub use laws::{
 };
 pub use planner::plan;
 pub use plans::Plan;
+pub use walk::Walk;

@@ -6,16 +6,17 @@ ghost use Rattle.nuc_plan.specs.Walk as spec;
 use nuc_base::{NodeId, TreeLike};
 
 /// A walk over the identities of Remote, Local and Synced, in rising order: the position in each tree of the first
-/// identity that it hasn't passed.
+/// identity that it hasn't passed. It comes to each identity once, also to one that stands in several of them.
 #[derive(Clone, Copy)]
-pub(crate) struct Walk {
+pub struct Walk {
     remote: u64,
     local: u64,
     synced: u64,
 }
 
 impl Walk {
-    pub(crate) fn new() -> Walk
+    /// Nothing is passed yet.
+    pub fn new() -> Walk
         ensures { (r l s : Nodes) → spec.HasPassed r l s 0 result }
     {
         Walk {
@@ -26,7 +27,7 @@ impl Walk {
     }
 
     /// Goes past the next identity of the three trees, if there is one more.
-    pub(crate) fn next<T: TreeLike>(&mut self, r: &T, l: &T, s: &T) -> Option<NodeId>
+    pub fn next<T: TreeLike>(&mut self, r: &T, l: &T, s: &T) -> Option<NodeId>
         ensures { (below : ℕ) → spec.HasPassed (T.nodes r.now) (T.nodes l.now) (T.nodes s.now) below self.old → MatchOption result (spec.AllPassed (T.nodes r.now) (T.nodes l.now) (T.nodes s.now) below) (λ x. spec.GoesPast (T.nodes r.now) (T.nodes l.now) (T.nodes s.now) below x.0 self.old self.new) }
     {
         let of_both = lesser(r.nth(self.remote), l.nth(self.local));

@@ -6,4 +6,5 @@ pub mod Kept
 pub mod Laying
 pub mod Locals
 pub mod Paged
+pub mod Scanned
 mod Trials

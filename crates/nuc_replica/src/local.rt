@@ -123,6 +123,25 @@ impl<T: TreeLike> Local<T> {
         Ok(())
     }
 
+    /// Gives an identity that is there another node, where that is known to be legal. It keeps its key. It wants memory
+    /// only when `spare` is 0.
+    pub fn put(&mut self, id: NodeId, node: Node) -> Result<(), AllocError>
+        requires there { IsThere self.old.now.tree id.0 }
+        requires fits { FitsKind node }
+        requires legal { LegalPut self.old.now.tree id.0 node }
+        ensures ok { OnOk result (self.new.now ≡ record self.old.now { tree = map.insert self.old.now.tree id.0 node }) }
+        ensures laid { self.new.laid ≡ self.old.laid }
+        ensures changed { ChangedLocal self.old 1 self.new }
+        ensures err { OnErr result (KeepsLocal self.old self.new) }
+        ensures memory { OnErr result (self.old.spare ≡ 0) }
+    {
+        self.reserve(1)?;
+        let Ok(()) = self.tree.put(id, node) else {
+            unreachable!()
+        };
+        Ok(())
+    }
+
     /// Gives an identity that is there the node that is laid by under this number, where that is known to be legal. It
     /// keeps its key.
     pub fn put_laid(&mut self, number: u64, id: NodeId)

@@ -1,6 +1,6 @@
 -- The steps of a client bring nothing but what comes with them.
 use Rattle.std.specs.Prelude.{Any}
-use Rattle.std.proofs.Common.{◌≡◌, ◌≢◌, ◌⊎◌, ◌<◌, ◌+◌, ◌++◌, ◌==◌, ℕ, zero, suc, Bool, true, false, cond, List, [], ◌∷◌, length, map, take, drop, Option, None, Some, refl, sym, ◌∙◌, ap, subst, inl, inr, arith}
+use Rattle.std.proofs.Common.{◌≡◌, ◌⊎◌, ◌+◌, ◌++◌, ◌==◌, ℕ, zero, suc, Bool, true, false, cond, List, [], ◌∷◌, length, map, take, drop, Option, None, Some, refl, sym, ◌∙◌, ap, subst, inl, inr, arith}
 use Rattle.std.specs.FinMap.{get, insert, remove}
 use Rattle.nuc_base.specs.Changes.{changed}
 use Rattle.nuc_base.specs.Ready.{all_changed}
@@ -11,7 +11,6 @@ use Rattle.nuc_base.specs.declared.node.Kind.{Kind}
 use Rattle.nuc_base.specs.declared.node.Node.{Node}
 use Rattle.nuc_base.proofs.Maps.{get_cut_other, get_cut_same, get_put_other, get_put_same, same_or_not}
 use Rattle.nuc_class.specs.declared.op.Op.{Op}
-use Rattle.nuc_edits.specs.Edits.{Recorded}
 use Rattle.nuc_flights.specs.Flights.{Flight, Stage, as_planned, flight_of, staged, started, taken, without}
 use Rattle.nuc_flights.specs.declared.taken.Taken.{Taken}
 use Rattle.nuc_flights.specs.declared.taken.Taken.TheVariants as came
@@ -19,11 +18,10 @@ use Rattle.nuc_journal.specs.Entries.{tree_after, with_value}
 use Rattle.nuc_journal.specs.declared.entry.Entry.{Entry}
 use Rattle.nuc_replica.specs.Remote.{RemoteState, heard, with_entries}
 use Rattle.nuc_step.specs.Client.{ClientState}
-use Rattle.nuc_step.specs.Holdings.{BringsNothingElse, EntryBrings, Holds, IsOf, OpHolds, Puts, StepsBringNothingElse, local_id}
+use Rattle.nuc_step.specs.Holdings.{EntryBrings, Holds, IsOf, OpHolds, Puts, StepsBringNothingElse, local_id}
 use Rattle.nuc_step.specs.Holdings.Holds.{remote as in_remote, local as in_local, synced as in_synced, ahead as in_ahead, flight as in_flight}
 use Rattle.nuc_step.specs.Holdings.OpHolds.{remote as puts_remote, local as puts_local, synced as puts_synced, old_local as was_local, old_synced as was_synced}
-use Rattle.nuc_step.specs.Steps.{IsDone, after_fly, after_pull, after_restart, after_start, after_take, base_of, caught_up_to, finished, is_split, landed, local_changes, numbered, split_changes}
-use Rattle.nuc_step.specs.declared.reply.DoneReply.{DoneReply}
+use Rattle.nuc_step.specs.Steps.{after_fly, after_pull, after_restart, after_start, after_take, base_of, caught_up_to, finished, is_split, landed, numbered, split_changes}
 use Rattle.nuc_step.proofs.Outcomes.{Came, came_of}
 use Rattle.nuc_step.proofs.Outcomes.Came.{applied, dropped, nothing}
 
@@ -94,7 +92,7 @@ flight_any P n (g ∷ fs) f there its = elim (g.op.number == n) as (λ b. cond b
 
 -- ONE IDENTITY: its node after a change of the tree is the one before, or the one that was put
 module _ (x : ℕ) (k : Kind) (v : ℕ) where
-  of_changed : (m : Nodes) (y : ℕ) (c : Change) → IsOf k v (get (changed m y c) x) → IsOf k v (get m x) ⊎ ((y ≡ x) × Puts k v c)
+  pub of_changed : (m : Nodes) (y : ℕ) (c : Change) → IsOf k v (get (changed m y c) x) → IsOf k v (get m x) ⊎ ((y ≡ x) × Puts k v c)
   of_changed m y Keep is = inl is
   of_changed m y (Put n) is = elim (same_or_not x y) [
     | inl same ↦ inr (sym same, subst (IsOf k v) (ap (get (insert m y n)) same ∙ get_put_same m y n) is)
@@ -238,7 +236,7 @@ module _ (x : ℕ) (k : Kind) (v : ℕ) where
   of_synced : (m : Nodes) (op : Op) → IsOf k v (get (changed m op.id.0 op.synced) x) → IsOf k v (get m x) ⊎ OpHolds x k v op
   of_synced m op is = elim (of_changed m op.id.0 op.synced is) [ inl was ↦ inl was | inr (at, puts) ↦ inr (puts_synced at puts) ]
 
-  landed_brings : (c : ClientState) (op : Op) (t : Taken) → Holds (landed op t c) x k v → Holds c x k v ⊎ OpHolds x k v op
+  pub landed_brings : (c : ClientState) (op : Op) (t : Taken) → Holds (landed op t c) x k v → Holds c x k v ⊎ OpHolds x k v op
   landed_brings c op (came.Folder o) = holds_of c (landed op (came.Folder o) c) (OpHolds x k v op) (λ is. inl (remote_holds c is))
       (λ is. elim (of_local c.local.tree op (is_split op.verb) refl is) [ inl was ↦ inl (in_local was) | inr mine ↦ inr mine ])
       (λ is. elim (of_synced c.synced op is) [ inl was ↦ inl (in_synced was) | inr mine ↦ inr mine ])

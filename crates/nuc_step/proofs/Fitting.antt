@@ -1,5 +1,4 @@
 -- After a plan a client is a client still, and its three trees fit together.
-use Rattle.std.specs.Prelude.{All}
 use Rattle.std.proofs.Common.{◌≡◌, ◌≢◌, ◌⊎◌, ◌<◌, ◌≤◌, ◌+◌, ◌∷◌, [], ℕ, Bool, Option, None, Some, refl, sym, ap, subst, ◌∙◌, inl, inr, arith}
 use Rattle.std.proofs.lemmas.List.Elements.{All-cons, All-nil}
 use Rattle.std.proofs.lemmas.Option.{none-some, same_Some}
@@ -26,8 +25,8 @@ use Rattle.nuc_class.specs.declared.op.Verb.TheVariants as verb
 use Rattle.nuc_class.specs.declared.wishes.Wish.{Wish}
 use Rattle.nuc_class.specs.declared.wishes.Wish.TheVariants as wish
 use Rattle.nuc_conflict.specs.After.{ComesFor, IsLocalAfter}
-use Rattle.nuc_conflict.specs.Facts.{AdoptionFacts, FactsOf}
-use Rattle.nuc_conflict.specs.FitTogether.{FitBelow, FitTogether, IsBelow}
+use Rattle.nuc_conflict.specs.Facts.{AdoptionFacts}
+use Rattle.nuc_conflict.specs.FitTogether.{FitTogether, IsBelow}
 use Rattle.nuc_conflict.proofs.After.{ChangesOne, PutsKind, changes_one, counted, kind_in_local, kind_in_remote, mends_keep_form}
 use Rattle.nuc_edits.specs.Edits.{Recorded, same_hash}
 use Rattle.nuc_folder.specs.declared.outcome.Outcome.TheVariants as outcome
@@ -36,9 +35,9 @@ use Rattle.nuc_plan.proofs.DueFacts.{due_anywhere}
 use Rattle.nuc_plan.proofs.Planned.{record_steps_stay_here}
 use Rattle.nuc_step.specs.Client.{ClientState}
 use Rattle.nuc_step.specs.Laws.{PlansKeepClients}
-use Rattle.nuc_step.specs.Planning.{CanNote, CanPlan, IsAdopted, IsBooked, IsLaunched, IsMended, IsMendedAtOnce, IsNoted, IsPlanOf, MendFlies, MendGoes, Planning, next_after}
+use Rattle.nuc_step.specs.Planning.{CanNote, CanPlan, IsAdopted, IsMendedAtOnce, IsNoted, IsPlanOf, MendFlies, MendGoes, Planning, next_after}
 use Rattle.nuc_step.specs.Sound.{AreNumbered, IsClient, MayFly}
-use Rattle.nuc_step.specs.Steps.{after_fly, local_after}
+use Rattle.nuc_step.specs.Steps.{local_after}
 use Rattle.nuc_step.specs.declared.answers.Planned.TheVariants as answer
 use Rattle.nuc_step.proofs.LocalAfter.{adopted_sound, local_sound}
 use Rattle.nuc_step.proofs.Notes.{Facts, adoption, batch_may, book_can, may_fly, mend_can, mend_facts, mend_sound}

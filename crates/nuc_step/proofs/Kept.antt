@@ -103,7 +103,7 @@ is_laid laid new n Cut same is = tt
 are_laid : (l m s t : Laid) (f : Flight) → get m f.op.number ≡ get l f.op.number → get t f.op.number ≡ get s f.op.number → AreLaid l s f → AreLaid m t f
 are_laid l m s t f local synced are = record { local = is_laid l m f.op.number f.op.local local are.local; synced = is_laid s t f.op.number f.op.synced synced are.synced }
 
-same_then : (r q : RemoteState) (l m : LocalState) (s t : Nodes) (fs : List Flight) (c : Counts) → q ≡ r → m ≡ l → t ≡ s
+pub same_then : (r q : RemoteState) (l m : LocalState) (s t : Nodes) (fs : List Flight) (c : Counts) → q ≡ r → m ≡ l → t ≡ s
     → ◌≡◌ {A = ClientState}
     (record { remote = r; local = l; synced = s; flights = fs; changes = c.changes; next_op = c.next_op })
     (record { remote = q; local = m; synced = t; flights = fs; changes = c.changes; next_op = c.next_op })

@@ -1,20 +1,28 @@
 mod AnyOrder
-mod Bringing
+pub mod Bringing
+pub mod Counted
 pub mod Ends
-mod Fitting
+pub mod Fitting
 pub mod Flying
 pub mod Kept
 mod Keyed
 pub mod Landed
+pub mod Lasting
 pub mod Laying
-mod LocalAfter
+pub mod Leading
+pub mod LocalAfter
 pub mod Notes
 pub mod Noticed
-mod Outcomes
+pub mod Observes
+pub mod Outcomes
 mod Ready
 mod ReadyPlans
+pub mod ScanBrings
 mod StaysReady
-mod Steady
+pub mod Steady
 mod Swaps
 mod Trials
+pub mod Turned
+pub mod Versions
+pub mod WatchBrings
 mod Written

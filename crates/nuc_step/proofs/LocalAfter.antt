@@ -22,6 +22,10 @@ use Rattle.nuc_replica.proofs.Locals.{keys_renamed}
 use Rattle.nuc_replica.specs.Local.{HasKey, HaveKeys, IsLocal, LocalState, moved_key}
 use Rattle.nuc_step.specs.Sound.{FitsOutcome, HasOther, MayFly, makes, makes_new}
 use Rattle.nuc_step.specs.Steps.{KeyIsFree, LocalReady, is_split, keys_with, local_after, split_changes}
+use Rattle.nuc_step.specs.Watching.{CanTurn, turned}
+use Rattle.nuc_step.specs.declared.watched.Turn.{Turn}
+use Rattle.nuc_step.specs.declared.watched.Turn.TheVariants as turn
+use Rattle.nuc_step.proofs.Leading.{sound_at}
 
 -- KEYS ARE KEYS
 key_comes : (ks : KeyMap) (x k : ℕ) → AreKeys ks → 0 < x → 0 < k → IsUnheld ks k → AreKeys (insert ks x k)
@@ -48,7 +52,7 @@ key_comes ks x k are some key free =
       ];
     }
 
-key_before : (ks : KeyMap) (x y k : ℕ) → get (remove ks x) y ≡ Some k → (y ≢ x) × (get ks y ≡ Some k)
+pub key_before : (ks : KeyMap) (x y k : ℕ) → get (remove ks x) y ≡ Some k → (y ≢ x) × (get ks y ≡ Some k)
 key_before ks x y k at = elim (same_or_not y x) [
   | inl same ↦ absurd (numbers.not_both (get (remove ks x) x) k (numbers.get_cut_same ks x) (subst (λ z. get (remove ks x) z ≡ Some k) same at))
   | inr apart ↦ (apart, sym (numbers.get_cut_other ks x y apart) ∙ at)
@@ -180,3 +184,26 @@ module _ (l : LocalState) (y x : ℕ) (node own : Node) (k : Nodes) (is : IsLoca
 
   pub adopted_sound : WellFormed k → IsLocal (record { tree = k; keys = moved_key l.keys y x (get l.keys y) })
   adopted_sound form = let keys = keys_adopted (get l.keys y) refl in record { form = form; keys = keys.0; follow = keys.1 }
+
+-- A WATCHED CHANGE
+pub turned_sound : (l : LocalState) (x : ℕ) (t : Turn) → IsLocal l → CanTurn l x t → IsLocal (turned l x t)
+turned_sound l x (turn.Add key node) is can = record {
+  form = tree_after l.tree x (Put node) is.form can.some can.fits can.legal;
+  keys = key_comes l.keys x key.0 is.keys can.some can.keyed can.free;
+  follow = follow_put l.tree l.keys x key.0 node is.follow;
+}
+turned_sound l x (turn.Put node) is can =
+    let (n, at) = can.there in
+    record {
+      form = tree_after l.tree x (Put node) is.form (sound_at l.tree x n is.form at).0 can.fits can.legal;
+      keys = is.keys;
+      follow = follow_over l.tree l.keys x node n at is.follow;
+    }
+turned_sound l x turn.Cut is can =
+    let (n, at) = can.there in
+    let some = (sound_at l.tree x n is.form at).0 in
+    record {
+      form = tree_after l.tree x Cut is.form some tt can;
+      keys = key_goes l.keys x is.keys some;
+      follow = follow_cut l.tree l.keys x is.follow;
+    }

@@ -1,7 +1,14 @@
 -- A client that follows a journal goes on to, whatever is done to it.
-use Rattle.std.proofs.Common.{◌≡◌, ◌++◌, ℕ, List, [], Option, take, drop, sym, ◌∙◌, ap, subst}
-use Rattle.std.specs.FinMap.{empty}
-use Rattle.nuc_base.specs.Trees.{Nodes}
+use Rattle.std.specs.Prelude.{All}
+use Rattle.std.proofs.Common.{◌≡◌, ◌<◌, ◌++◌, ℕ, List, [], Option, Some, take, drop, sym, subst}
+use Rattle.std.proofs.lemmas.List.Elements.{All-nil}
+use Rattle.std.specs.FinMap.{empty, get, get-empty}
+use Rattle.std.specs.Ordering.{nat_cmp}
+use Rattle.nuc_base.specs.Trees.{Nodes, WellFormed}
+use Rattle.nuc_base.specs.declared.node.Counters.{Counters}
+use Rattle.nuc_base.specs.declared.node.Node.{Node}
+use Rattle.nuc_base.proofs.Forms.{empty_form}
+use Rattle.nuc_base.proofs.Maps.{not_both}
 use Rattle.nuc_lookup.specs.Rows.{Numbers}
 use Rattle.nuc_class.specs.declared.op.Op.{Op}
 use Rattle.nuc_edits.specs.Edits.{Recorded}
@@ -16,6 +23,7 @@ use Rattle.nuc_replica.proofs.Paged.{at_news, at_page}
 use Rattle.nuc_step.specs.Calls.{TakeAnswers}
 use Rattle.nuc_step.specs.Client.{ClientState, ClientStates}
 use Rattle.nuc_step.specs.Steps.{IsDone, after_pull, caught_up_to, finished, landed}
+use Rattle.nuc_step.specs.Watching.{CanWatch}
 use Rattle.nuc_step.specs.declared.answers.TakeFault.{TakeFault}
 use Rattle.nuc_step.specs.declared.answers.TakeFault.TheVariants as fault
 use Rattle.nuc_step.specs.declared.reply.DoneReply.{DoneReply}

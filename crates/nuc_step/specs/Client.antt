@@ -7,6 +7,7 @@ use Rattle.nuc_flights.specs.Codes.{flight_code}
 use Rattle.nuc_flights.specs.Flights.{Flight, FlightsState}
 use Rattle.nuc_replica.specs.Local.{LocalState, LocalStates, local_code}
 use Rattle.nuc_replica.specs.Remote.{RemoteState, RemoteStates, remote_code}
+use Rattle.nuc_step.specs.Held.{HeldState, held_code}
 use Rattle.nuc_step.specs.declared.counts.Counts.{Counts}
 use Rattle.nuc_undo.specs.State.{UndoState, settled_of}
 
@@ -20,10 +21,11 @@ pub record ClientState : Type 0 where
   pub changes : ℕ
   pub next_op : ℕ
 
--- what there is now, and what `back` leads to
+-- what there is now, and what `back` leads to; beside it the listing that is held
 pub record ClientStates : Type 0 where
   pub now : ClientState
   pub settled : ClientState
+  pub listing : HeldState
 
 abbrev pub client_code : Coded ClientState
 client_code = code_by (RemoteState × (LocalState × (Nodes × (List Flight × (ℕ × ℕ)))))
@@ -33,7 +35,8 @@ client_code = code_by (RemoteState × (LocalState × (Nodes × (List Flight × (
     (λ _. refl)
 
 abbrev pub clients_code : Coded ClientStates
-clients_code = code_by (ClientState × ClientState) (coded× client_code client_code) (λ c. (c.now, c.settled)) (λ t. record { now = t.0; settled = t.1 }) (λ _. refl)
+clients_code = code_by (ClientState × (ClientState × HeldState)) (coded× client_code (coded× client_code held_code))
+    (λ c. (c.now, (c.settled, c.listing))) (λ t. record { now = t.0; settled = t.1.0; listing = t.1.1 }) (λ _. refl)
 
 -- what the parts of a client make together
 abbrev pub state_now : RemoteStates → LocalStates → UndoState → FlightsState → Counts → ClientState

@@ -1,5 +1,5 @@
 -- What a client holds, and that its steps bring nothing else.
-use Rattle.std.specs.Prelude.{◌≡◌, ◌⊎◌, ℕ, Bool, true, false, Any, Contains, List, Option, None, Some}
+use Rattle.std.specs.Prelude.{◌≡◌, ◌⊎◌, ℕ, Bool, true, false, Any, List, Option, None, Some}
 use Rattle.std.specs.FinMap.{get}
 use Rattle.nuc_base.specs.declared.change.Change.{Change}
 use Rattle.nuc_base.specs.declared.change.Change.TheVariants.{Keep, Put, Cut}
@@ -7,7 +7,6 @@ use Rattle.nuc_base.specs.declared.node.Kind.{Kind}
 use Rattle.nuc_base.specs.declared.node.Node.{Node}
 use Rattle.nuc_class.specs.declared.op.Op.{Op}
 use Rattle.nuc_edits.specs.Edits.{Recorded}
-use Rattle.nuc_flights.specs.Flights.{Flight}
 use Rattle.nuc_flights.specs.declared.taken.Taken.{Taken}
 use Rattle.nuc_journal.specs.declared.entry.Entry.{Entry}
 use Rattle.nuc_step.specs.Client.{ClientState}

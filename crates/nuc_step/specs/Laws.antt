@@ -10,14 +10,21 @@ use Rattle.nuc_class.specs.declared.op.Op.{Op}
 use Rattle.nuc_edits.specs.Edits.{Recorded}
 use Rattle.nuc_flights.specs.Flights.{Flight, flight_of}
 use Rattle.nuc_flights.specs.declared.taken.Taken.{Taken}
+use Rattle.nuc_folder.specs.declared.noticed.Noticed.{Noticed}
 use Rattle.nuc_journal.specs.declared.entry.Entry.{Entry}
+use Rattle.nuc_replica.specs.Local.{IsLocal}
 use Rattle.nuc_replica.specs.Remote.{Follows, RemoteState, caught_up}
 use Rattle.nuc_step.specs.Calls.{MayBeTaken}
 use Rattle.nuc_step.specs.Client.{ClientState}
+use Rattle.nuc_step.specs.Held.{HeldState}
 use Rattle.nuc_step.specs.Planning.{CanPlan, PlanAnswers, Planning}
+use Rattle.nuc_step.specs.Scanning.{ScanAnswers}
 use Rattle.nuc_step.specs.Sound.{IsClient, MayFly}
 use Rattle.nuc_step.specs.Steps.{IsDone, after_fly, after_pull, after_restart, after_start, after_take, is_split}
+use Rattle.nuc_step.specs.Watching.{CanWatch, WatchAnswers, Watching}
 use Rattle.nuc_step.specs.declared.answers.Planned.{Planned}
+use Rattle.nuc_step.specs.declared.answers.Scanned.{Scanned}
+use Rattle.nuc_step.specs.declared.answers.WatchReply.{WatchReply}
 use Rattle.nuc_step.specs.declared.reply.DoneReply.{DoneReply}
 
 -- a Done ends in one way
@@ -78,3 +85,13 @@ StepsKeepClients = (c : ClientState) → IsClient c → StepsKeep c
 abbrev pub PlansKeepClients : Type 0
 PlansKeepClients = (p q : Planning) (answer : Planned) → IsClient p.client → CanPlan p.client p.next_id → PlanAnswers p answer q
     → IsClient q.client × CanPlan q.client q.next_id
+
+-- after a watched change another may come, and a scan
+abbrev pub WatchesKeep : Type 0
+WatchesKeep = (w v : Watching) (change : Noticed) (answer : WatchReply) → CanWatch w.client w.recorded w.ids → WatchAnswers w change answer v
+    → CanWatch v.client v.recorded v.ids
+
+-- so they may after a scan
+abbrev pub ScansKeep : Type 0
+ScansKeep = (h g : HeldState) (w v : Watching) (answer : Scanned) → IsLocal w.client.local → CanWatch w.client w.recorded w.ids → ScanAnswers h w answer g v
+    → CanWatch v.client v.recorded v.ids

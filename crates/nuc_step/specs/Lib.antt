@@ -1,9 +1,13 @@
 pub mod Calls
 pub mod Client
+pub mod Held
 pub mod Holdings
 pub mod Launch
 pub mod Laws
 pub mod Order
 pub mod Planning
+pub mod Scanning
 pub mod Sound
+pub mod Stages
 pub mod Steps
+pub mod Watching

@@ -1,3 +1,4 @@
+use nuc_base::NodeId;
 use nuc_class::Op;
 use thiserror::Error;
 
@@ -38,4 +39,35 @@ pub enum Planned {
     Mend(Op),
     /// So many operations are in flight still.
     Busy(u64),
+}
+
+/// How a client answers a listing of its folder.
+#[derive(Clone, Copy, Debug, PartialEq, Eq)]
+pub enum ListReply {
+    /// It is held, for as long as Local has changed this often.
+    Held(u64),
+    /// It has so many items, more than `MOST_ITEMS`.
+    TooLong(u64),
+}
+
+/// How a client answers a change that a user made in its folder.
+#[derive(Clone, Copy, Debug, PartialEq, Eq)]
+pub enum WatchReply {
+    /// Local has the change, at this identity.
+    Changed(NodeId),
+    /// It doesn't fit what the client knows: the folder is to be listed and scanned.
+    Rescan,
+}
+
+/// What comes of a scan: of taking the listing that a client holds over into Local.
+#[derive(Clone, Copy, Debug, PartialEq, Eq)]
+pub enum Scanned {
+    /// So many identities have another value in Local.
+    Changed(u64),
+    /// No listing is held.
+    NoListing,
+    /// Local, which has changed this often, isn't as it was when the listing was made.
+    Stale(u64),
+    /// This item is the first that is bad, counted from 1.
+    Bad(u64),
 }

@@ -6,10 +6,12 @@ ghost use Rattle.nuc_replica.specs.Local.{IsLocal};
 ghost use Rattle.nuc_replica.specs.Remote.{Follows};
 ghost use Rattle.nuc_edits.specs.Edits.{Recorded};
 ghost use Rattle.nuc_step.specs.Calls.{FlyAnswers, MayBeTaken, TakeAnswers};
+ghost use Rattle.nuc_step.specs.Held.{gone_back, let_go, settled_now};
 ghost use Rattle.nuc_step.specs.Sound.{IsClient, MayFly, SettlesLocal, SettlesSynced};
 ghost use Rattle.nuc_step.specs.Steps.{IsDone, after_fly, after_pull, after_restart, after_start, after_take};
 
 use crate::counts::Counts;
+use crate::held::HeldListing;
 use crate::landing::{land_commit, land_in_folder};
 use crate::launch::{lay_local, lay_synced, number_from};
 use crate::{DoneReply, FlyReply, NoSuchOp, Reason, TakeFault};
@@ -25,8 +27,8 @@ use nuc_undo::UndoTree;
 use std::alloc::{AllocError, Global};
 use std::marker::Model;
 
-/// A client: the server's tree at its cursor, the folder as it last observed it, what both last agreed on, and the
-/// operations in flight.
+/// A client: the server's tree at its cursor, the folder as it last observed it, what both last agreed on, the operations
+/// in flight, and at most one listing of the folder that is to be taken over into Local.
 ///
 /// An operation is planned by `fly`, begun by `start`, carried out outside and then told by `take`, and ends with `done`.
 /// All that a Done needs is made by the calls before it, so that it takes no memory. What `settle` has seen `back` leads
@@ -41,6 +43,7 @@ pub struct Client<T: TreeLike> {
     pub(crate) counts: Counts,
     /// What was counted at the last `settle`.
     settled_counts: Counts,
+    pub(crate) listing: HeldListing,
 }
 
 impl<T: TreeLike> Model for Client<T> {
@@ -51,7 +54,7 @@ impl<T: TreeLike> Model for Client<T> {
 
     ghost coded = { clients_code };
 
-    ghost view = { λ c. record { now = state_now c.remote c.local c.synced c.flights c.counts; settled = state_then c.remote c.local c.synced c.flights c.settled_counts } };
+    ghost view = { λ c. record { now = state_now c.remote c.local c.synced c.flights c.counts; settled = state_then c.remote c.local c.synced c.flights c.settled_counts; listing = c.listing } };
 
     ghost invariant = { λ c. IsKept c.remote c.local c.synced c.flights c.counts c.settled_counts };
 }
@@ -73,6 +76,7 @@ impl<T: TreeLike> Client<T> {
         requires laid { local.laid_then ≡ local.laid }
         ensures now { result.now ≡ record { remote = remote.now; local = local.now; synced = T.nodes synced; flights = []; changes = changes; next_op = next_op } }
         ensures settled { result.settled ≡ result.now }
+        ensures listing { result.listing ≡ record { now = None; settled = None } }
     {
         let counts = Counts { changes, next_op };
         Client {
@@ -82,6 +86,7 @@ impl<T: TreeLike> Client<T> {
             flights: Flights::new(alloc),
             counts,
             settled_counts: counts,
+            listing: HeldListing::new(),
         }
     }
 
@@ -150,6 +155,7 @@ impl<T: TreeLike> Client<T> {
         requires { All MayFly ops.items }
         ensures answer { FlyAnswers self.old.now ops.items result self.new.now }
         ensures settled { self.new.settled ≡ self.old.settled }
+        ensures listing { self.new.listing ≡ self.old.listing }
     {
         let flying = self.flights.len();
         if flying > 0 {
@@ -167,6 +173,7 @@ impl<T: TreeLike> Client<T> {
         ensures ok { OnOk result (self.new.now ≡ after_fly ops.items self.old.now) }
         ensures err { OnErr result (self.new.now ≡ self.old.now) }
         ensures settled { self.new.settled ≡ self.old.settled }
+        ensures listing { self.new.listing ≡ self.old.listing }
     {
         let count = ops.len() as u64;
         let next_op = self.counts.next_op.checked_add(count).ok_or(AllocError)?;
@@ -190,6 +197,7 @@ impl<T: TreeLike> Client<T> {
         ensures err { OnErr result ((k : ℕ) × (self.new.now ≡ after_pull (take k page.now) self.old.now)) }
         ensures cursor { IfOk result (λ cursor. cursor ≡ self.new.now.remote.cursor) }
         ensures settled { self.new.settled ≡ self.old.settled }
+        ensures listing { self.new.listing ≡ self.old.listing }
     {
         self.remote.pull(alloc, page)?;
         Ok(self.remote.cursor())
@@ -200,6 +208,7 @@ impl<T: TreeLike> Client<T> {
         ensures ok { OnOk result (StandsAt number IsPlanned self.old.now.flights × (self.new.now ≡ after_start number self.old.now)) }
         ensures none { OnErr result (¬ (StandsAt number IsPlanned self.old.now.flights) × (self.new.now ≡ self.old.now)) }
         ensures settled { self.new.settled ≡ self.old.settled }
+        ensures listing { self.new.listing ≡ self.old.listing }
     {
         if self.flights.start(number) {
             Ok(())
@@ -222,6 +231,7 @@ impl<T: TreeLike> Client<T> {
         requires fits { IfSome (flight_of number self.old.now.flights) (MayBeTaken self.old.now.remote news.now taken) }
         ensures answer { TakeAnswers self.old.now number taken news.now result self.new.now }
         ensures settled { self.new.settled ≡ self.old.settled }
+        ensures listing { self.new.listing ≡ self.old.listing }
     {
         if !self.flights.is_started(number) {
             return Err(TakeFault::NoSuchOp);
@@ -241,6 +251,7 @@ impl<T: TreeLike> Client<T> {
         requires { 0 < edits.old.spare }
         ensures done { IsDone number self.old.now edits.old.now result self.new.now edits.new.now }
         ensures settled { self.new.settled ≡ self.old.settled }
+        ensures listing { self.new.listing ≡ self.old.listing }
         ensures edits_settled { edits.new.settled ≡ edits.old.settled }
     {
         match self.flights.taken(number) {
@@ -257,6 +268,7 @@ impl<T: TreeLike> Client<T> {
         ensures reply { result ≡ DoneReply.Dropped reason }
         ensures now { self.new.now ≡ record self.old.now { flights = without number self.old.now.flights } }
         ensures settled { self.new.settled ≡ self.old.settled }
+        ensures listing { self.new.listing ≡ self.old.listing }
     {
         self.flights.finish(number);
         DoneReply::Dropped(reason)
@@ -267,6 +279,7 @@ impl<T: TreeLike> Client<T> {
         requires { taken_of (flight_of number self.old.now.flights) ≡ Some (Taken.Accepted rev) }
         ensures done { (e : Recorded) → IsDone number self.old.now e result self.new.now e }
         ensures settled { self.new.settled ≡ self.old.settled }
+        ensures listing { self.new.listing ≡ self.old.listing }
     {
         let Some(op) = self.flights.op(number) else {
             unreachable!()
@@ -284,6 +297,7 @@ impl<T: TreeLike> Client<T> {
         requires room { 0 < edits.old.spare }
         ensures done { IsDone number self.old.now edits.old.now result self.new.now edits.new.now }
         ensures settled { self.new.settled ≡ self.old.settled }
+        ensures listing { self.new.listing ≡ self.old.listing }
         ensures edits_settled { edits.new.settled ≡ edits.old.settled }
     {
         if !outcome.is_success() {
@@ -301,13 +315,15 @@ impl<T: TreeLike> Client<T> {
         applied_or_stale(landed)
     }
 
-    /// Everything in flight is forgotten, with the entries that were heard of and not applied.
+    /// Everything in flight is forgotten, with the entries that were heard of and not applied, and the listing.
     pub fn restart(&mut self)
         ensures now { self.new.now ≡ after_restart self.old.now }
         ensures settled { self.new.settled ≡ self.old.settled }
+        ensures listing { self.new.listing ≡ let_go self.old.listing }
     {
         self.flights.clear();
         self.remote.forget();
+        self.listing.let_go();
     }
 }
 
@@ -317,11 +333,13 @@ impl<T: TreeLike + Drop> Client<T> {
     pub fn settle(&mut self)
         ensures now { self.new.now ≡ self.old.now }
         ensures settled { self.new.settled ≡ self.old.now }
+        ensures listing { self.new.listing ≡ settled_now self.old.listing }
     {
         self.remote.settle();
         settle_trees(&mut self.local, &mut self.synced, self.flights.len());
         self.flights.settle();
         self.settled_counts = self.counts;
+        self.listing.settle();
     }
 
     /// The client becomes what it was at the last `settle`, or when it was made. It takes no memory, and a Done after it
@@ -329,12 +347,14 @@ impl<T: TreeLike + Drop> Client<T> {
     pub fn back(&mut self)
         ensures now { self.new.now ≡ self.old.settled }
         ensures settled { self.new.settled ≡ self.old.settled }
+        ensures listing { self.new.listing ≡ gone_back self.old.listing }
     {
         self.remote.back();
         self.local.back();
         self.synced.back();
         self.flights.back();
         self.counts = self.settled_counts;
+        self.listing.back();
     }
 }
 

@@ -1,5 +1,5 @@
 ghost use Rattle.nuc_step.specs.Holdings.{StepsBringNothingElse};
-ghost use Rattle.nuc_step.specs.Laws.{DoneWritesOnce, MoveKeepsKey, OneEnd, PlansKeepClients, StayingKeepsKey, StepsKeepClients};
+ghost use Rattle.nuc_step.specs.Laws.{DoneWritesOnce, MoveKeepsKey, OneEnd, PlansKeepClients, ScansKeep, StayingKeepsKey, StepsKeepClients, WatchesKeep};
 
 /// Two Dones of one operation, of one client and with the same recorded, have the same reply, and the same client and
 /// recorded come of them.
@@ -39,4 +39,15 @@ pub fn a_step_brings_nothing_else()
 /// whoever only plans and adds to the trees what fits may plan again.
 pub fn a_plan_keeps_a_client()
     ensures { PlansKeepClients }
+{}
+
+/// After a watched change the trees fit together, and identities and versions are below the next ones, so that a change may
+/// be watched again, or the folder scanned.
+pub fn a_watch_keeps_what_it_needs()
+    ensures { WatchesKeep }
+{}
+
+/// So they are after a scan.
+pub fn a_scan_keeps_what_it_needs()
+    ensures { ScansKeep }
 {}

@@ -2,33 +2,43 @@
 #![tactic(auto)]
 
 mod answers;
+mod changed_count;
 mod client;
 #[cfg(test)]
 mod client_tests;
 mod counts;
 mod event;
+mod held;
 mod landing;
 mod launch;
 mod laws;
 mod log;
+mod noticing;
 mod noting;
 mod order;
 mod planning;
+mod reading;
 mod reason;
 mod reply;
+mod scanning;
+mod stages;
+mod taking;
 #[cfg(test)]
 mod tests;
 #[cfg(test)]
 mod trial;
+mod turning;
 mod view;
+mod watched;
+mod watching;
 
-pub use answers::{FlyReply, NoSuchOp, Planned, TakeFault};
+pub use answers::{FlyReply, ListReply, NoSuchOp, Planned, Scanned, TakeFault, WatchReply};
 pub use client::Client;
 pub use event::Event;
 pub use laws::{
     a_done_ends_in_one_way, a_done_writes_one_identity, a_move_keeps_its_identity,
-    a_plan_keeps_a_client, a_step_brings_nothing_else, each_step_keeps_a_client,
-    what_stays_keeps_its_key,
+    a_plan_keeps_a_client, a_scan_keeps_what_it_needs, a_step_brings_nothing_else,
+    a_watch_keeps_what_it_needs, each_step_keeps_a_client, what_stays_keeps_its_key,
 };
 pub use log::{Log, LogEntry};
 pub use order::{

@@ -34,6 +34,7 @@ impl<T: TreeLike> Client<T> {
         ensures err_ids { OnErr result (ids.new ≡ ids.old) }
         ensures versions { ids.new.next_ver ≡ ids.old.next_ver }
         ensures settled { self.new.settled ≡ self.old.settled }
+        ensures listing { self.new.listing ≡ self.old.listing }
         ensures edits_settled { edits.new.settled ≡ edits.old.settled }
     {
         let flying = self.flights.len();
@@ -66,6 +67,7 @@ impl<T: TreeLike> Client<T> {
         ensures ok { IfOk result (λ shown. self.new.now ≡ after_fly ops.now self.old.now) }
         ensures err { OnErr result (self.new.now ≡ self.old.now) }
         ensures settled { self.new.settled ≡ self.old.settled }
+        ensures listing { self.new.listing ≡ self.old.listing }
     {
         let next_op = self.counts.next_op;
         next_op.checked_add(ops.len() as u64).ok_or(AllocError)?;
@@ -83,6 +85,7 @@ impl<T: TreeLike> Client<T> {
         ensures ok { IfOk result (λ shown. self.new.now ≡ after_fly (op ∷ []) self.old.now) }
         ensures err { OnErr result (self.new.now ≡ self.old.now) }
         ensures settled { self.new.settled ≡ self.old.settled }
+        ensures listing { self.new.listing ≡ self.old.listing }
     {
         let shown = number_one(self.counts.next_op, &self.remote, op.copy(alloc)?);
         self.launch(alloc, vec![in alloc; op]?)?;
@@ -98,6 +101,7 @@ impl<T: TreeLike> Client<T> {
         ensures err { OnErr result (self.new.now ≡ self.old.now) }
         ensures err_edits { OnErr result (edits.new.now ≡ edits.old.now) }
         ensures settled { self.new.settled ≡ self.old.settled }
+        ensures listing { self.new.listing ≡ self.old.listing }
         ensures edits_settled { edits.new.settled ≡ edits.old.settled }
     {
         let shown = number_one(self.counts.next_op, &self.remote, op);
@@ -114,6 +118,7 @@ impl<T: TreeLike> Client<T> {
         ensures err { OnErr result (self.new.now ≡ self.old.now) }
         ensures err_edits { OnErr result (edits.new.now ≡ edits.old.now) }
         ensures settled { self.new.settled ≡ self.old.settled }
+        ensures listing { self.new.listing ≡ self.old.listing }
         ensures edits_settled { edits.new.settled ≡ edits.old.settled }
     {
         let is_changed = is_changed_by(self.local.tree(), op);
@@ -137,6 +142,7 @@ impl<T: TreeLike> Client<T> {
         ensures err { OnErr result (self.new.now ≡ self.old.now) }
         ensures err_edits { OnErr result (edits.new.now ≡ edits.old.now) }
         ensures settled { self.new.settled ≡ self.old.settled }
+        ensures listing { self.new.listing ≡ self.old.listing }
         ensures edits_settled { edits.new.settled ≡ edits.old.settled }
     {
         let shown = number_one(self.counts.next_op, &self.remote, op);
@@ -154,6 +160,7 @@ impl<T: TreeLike> Client<T> {
         ensures err { OnErr result (self.new.now ≡ self.old.now) }
         ensures err_edits { OnErr result (edits.new.now ≡ edits.old.now) }
         ensures settled { self.new.settled ≡ self.old.settled }
+        ensures listing { self.new.listing ≡ self.old.listing }
         ensures edits_settled { edits.new.settled ≡ edits.old.settled }
     {
         let changes = self.counts.changes.checked_add(1).ok_or(AllocError)?;
@@ -185,6 +192,7 @@ impl<T: TreeLike> Client<T> {
         ensures err_ids { OnErr result (ids.new ≡ ids.old) }
         ensures versions { ids.new.next_ver ≡ ids.old.next_ver }
         ensures settled { self.new.settled ≡ self.old.settled }
+        ensures listing { self.new.listing ≡ self.old.listing }
         ensures edits_settled { edits.new.settled ≡ edits.old.settled }
     {
         if op.effect == Effect::Nothing {
@@ -210,6 +218,7 @@ impl<T: TreeLike> Client<T> {
         ensures err { OnErr result (self.new.now ≡ self.old.now) }
         ensures err_edits { OnErr result (edits.new.now ≡ edits.old.now) }
         ensures settled { self.new.settled ≡ self.old.settled }
+        ensures listing { self.new.listing ≡ self.old.listing }
         ensures edits_settled { edits.new.settled ≡ edits.old.settled }
     {
         if op.verb == Verb::Adopt {
@@ -230,6 +239,7 @@ impl<T: TreeLike> Client<T> {
         ensures err { OnErr result (self.new.now ≡ self.old.now) }
         ensures err_ids { OnErr result (ids.new ≡ ids.old) }
         ensures settled { self.new.settled ≡ self.old.settled }
+        ensures listing { self.new.listing ≡ self.old.listing }
     {
         let next_id = next_after(op.verb, ids.next_id)?;
         let shown = self.launch_one(alloc, op)?;

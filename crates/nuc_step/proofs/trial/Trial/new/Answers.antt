@@ -1,5 +1,4 @@
 use Rattle.std.proofs.Common.{◌∙◌, ap}
-use Rattle.nuc_replica.specs.Remote.{RemoteStates}
 use Rattle.nuc_replica.proofs.Journaled.{none_have}
 use Rattle.nuc_step.specs.Client.{ClientState}
 use Rattle.nuc_step.proofs.Trials.{at_first}
