@@ -1,0 +1,17 @@
+pub mod Adding
+pub mod Adoptions
+pub mod Bounds
+pub mod Carried
+pub mod Costs
+pub mod Counting
+pub mod Ending
+pub mod Evictions
+pub mod Marking
+pub mod Marks
+pub mod Mending
+pub mod Points
+pub mod Returns
+pub mod Splits
+pub mod Steps
+pub mod Totals
+pub mod Whole
