@@ -1,0 +1,12 @@
+pub mod Committing
+pub mod Form
+pub mod Laws
+pub mod Marks
+pub mod Parts
+pub mod Runs
+pub mod Starts
+pub mod State
+pub mod Step
+pub mod Takes
+pub mod Unlisted
+pub mod Watched
