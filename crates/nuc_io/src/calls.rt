@@ -1,5 +1,5 @@
 ghost use Rattle.std.specs.Prelude.{false, ◌≡◌, ◌<◌, ◌≤◌, ◌+◌, [], ◌∷◌, ◌++◌, OnOk, OnErr};
-ghost use Rattle.nuc_io.specs.Calls.{is_to_fail, after_call, one_more};
+ghost use Rattle.nuc_io.specs.Calls.{after_call, calls_back, is_to_fail, one_more, settled_calls};
 
 use std::alloc::{AllocError, Global};
 use std::marker::Model;
@@ -8,6 +8,7 @@ use std::marker::Model;
 #[derive(Debug, Drop)]
 pub struct Calls {
     made: u64,
+    settled: u64,
     failing: Vec<u64>,
     faults: u64,
 }
@@ -17,16 +18,17 @@ impl Model for Calls {
 
     ghost Value = { CallsData };
 
-    ghost view = { λ c. record { made = c.made; failing = c.failing.items; faults = c.faults } };
+    ghost view = { λ c. record { made = c.made; settled = c.settled; failing = c.failing.items; faults = c.faults } };
 }
 
 impl Calls {
     /// None was made, and none is to fail.
     pub fn new(alloc: Global) -> Calls
-        ensures { result ≡ record { made = 0; failing = []; faults = 0 } }
+        ensures { result ≡ record { made = 0; settled = 0; failing = []; faults = 0 } }
     {
         Calls {
             made: 0,
+            settled: 0,
             failing: Vec::new(alloc),
             faults: 0,
         }
@@ -58,5 +60,19 @@ impl Calls {
         ensures later { self.old.faults ≤ self.new.faults }
     {
         self.faults = self.faults.saturating_add(1);
+    }
+
+    /// The calls made up to now are those to which `back` leads.
+    pub fn settle(&mut self)
+        ensures { self.new ≡ settled_calls self.old }
+    {
+        self.settled = self.made;
+    }
+
+    /// Counts no call that was made since the last `settle`. Which numbers fail, and how many calls have failed, stays.
+    pub fn back(&mut self)
+        ensures { self.new ≡ calls_back self.old }
+    {
+        self.made = self.settled;
     }
 }

@@ -26,7 +26,7 @@ impl Model for MemSink {
 impl MemSink {
     /// An empty sink, none of whose calls fails.
     pub fn new(alloc: Global) -> MemSink
-        ensures { result ≡ record { held = []; calls = record { made = 0; failing = []; faults = 0 } } }
+        ensures { result ≡ record { held = []; calls = record { made = 0; settled = 0; failing = []; faults = 0 } } }
     {
         MemSink {
             bytes: Vec::new(alloc),

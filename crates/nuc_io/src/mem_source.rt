@@ -32,7 +32,7 @@ impl Model for MemSource {
 impl MemSource {
     /// A source of these bytes, none of whose calls fails.
     pub fn new(alloc: Global, bytes: Vec<u8>) -> MemSource
-        ensures { result ≡ record { left = bytes.items; ended = false; calls = record { made = 0; failing = []; faults = 0 } } }
+        ensures { result ≡ record { left = bytes.items; ended = false; calls = record { made = 0; settled = 0; failing = []; faults = 0 } } }
     {
         MemSource {
             bytes,

@@ -11,8 +11,8 @@ use Rattle.nuc_edits.specs.declared.edit.EditKind.{EditKind}
 use Rattle.nuc_edits.specs.declared.edit.EditKind.TheVariants.{Put, Deleted}
 use Rattle.nuc_report.specs.declared.status.Status.{Status}
 use Rattle.nuc_report.specs.declared.status.Status.TheVariants as status
-use Rattle.nuc_script.specs.Grammar.{IsScript}
-use Rattle.nuc_script.specs.declared.command.Command.{Command}
+use Rattle.nuc_plain_script.specs.Grammar.{IsScript}
+use Rattle.nuc_plain_script.specs.declared.command.Command.{Command}
 use Rattle.nuc_step.specs.declared.event.Event.{Event}
 use Rattle.nuc_step.specs.declared.event.Event.TheVariants as event
 use Rattle.nuc_step.specs.declared.log.LogEntry.{LogEntry}

@@ -1,10 +1,10 @@
 -- A script has one whole log, and a run one outcome.
 use Rattle.std.proofs.Common.{◌≡◌, ℕ, false, List, [], ◌∷◌, ◌++◌, Option, None, Some, refl, sym, ◌∙◌, ap, subst}
-use Rattle.nuc_script.specs.declared.command.Command.{Command}
-use Rattle.nuc_script.specs.declared.script_read.ScriptRead.TheVariants as read
-use Rattle.nuc_script.proofs.OneReading.{every_script_is_read, one_reading}
-use Rattle.nuc_script.specs.Grammar.{IsScript}
-use Rattle.nuc_script.specs.Text.{script_text}
+use Rattle.nuc_plain_script.specs.declared.command.Command.{Command}
+use Rattle.nuc_plain_script.specs.declared.script_read.ScriptRead.TheVariants as read
+use Rattle.nuc_plain_script.proofs.OneReading.{every_script_is_read, one_reading}
+use Rattle.nuc_plain_script.specs.Grammar.{IsScript}
+use Rattle.nuc_plain_script.specs.Text.{script_text}
 use Rattle.nuc_step.specs.declared.log.LogEntry.{LogEntry}
 use Rattle.nuc_step.specs.declared.log.LogEntry.TheVariants as entry
 use Rattle.nuc_report.specs.declared.status.Status.TheVariants as status

@@ -3,9 +3,9 @@ use Rattle.std.specs.Prelude.{◌||◌}
 use Rattle.std.proofs.Common.{◌≡◌, ◌==◌, ℕ, Bool, true, false, cond, List, [], ◌∷◌, ◌++◌, refl, sym, ◌∙◌, ap, subst}
 use Rattle.std.specs.List.{flat_map, list_any}
 use Rattle.nuc_class.specs.declared.op.Op.{Op}
-use Rattle.nuc_script.specs.Grammar.{ComeBehind, IsScript, is_web}
-use Rattle.nuc_script.specs.declared.command.Command.{Command}
-use Rattle.nuc_script.specs.declared.command.Command.TheVariants as command
+use Rattle.nuc_plain_script.specs.Grammar.{ComeBehind, IsScript, is_web}
+use Rattle.nuc_plain_script.specs.declared.command.Command.{Command}
+use Rattle.nuc_plain_script.specs.declared.command.Command.TheVariants as command
 use Rattle.nuc_step.specs.declared.event.Event.{Event}
 use Rattle.nuc_step.specs.declared.event.Event.TheVariants as event
 use Rattle.nuc_step.specs.declared.log.LogEntry.{LogEntry}

@@ -4,7 +4,7 @@ use Rattle.nuc_io.specs.Writing.{Added}
 use Rattle.nuc_report.specs.Output.{output_of}
 use Rattle.nuc_report.specs.declared.status.Status.{Status}
 use Rattle.nuc_report.specs.declared.status.Status.TheVariants as status
-use Rattle.nuc_script.specs.declared.command.Command.{Command}
+use Rattle.nuc_plain_script.specs.declared.command.Command.{Command}
 use Rattle.nuc_step.specs.declared.log.LogEntry.{LogEntry}
 use Rattle.nuc_run.specs.Outcome.{WritesOutput, WritesRun, seen_in}
 use Rattle.nuc_run.specs.Runs.{IsEarlyLog, Reaches}

@@ -3,9 +3,9 @@ use Rattle.std.specs.Prelude.{◌||◌}
 use Rattle.std.proofs.Common.{◌≡◌, ◌+◌, ◌<◌, ℕ, zero, suc, true, false, List, [], ◌∷◌, ◌++◌, append_assoc, append-nil, length, take, drop, slice_get, slice_index_or, Some, refl, sym, ◌∙◌, ap, subst, inl, inr}
 use Rattle.std.proofs.lemmas.Option.{slice_get_read}
 use Rattle.std.specs.List.{list_any}
-use Rattle.nuc_script.specs.Grammar.{ComeBehind, IsBuilt, IsNew, IsScript, is_web}
-use Rattle.nuc_script.specs.declared.command.Command.{Command}
-use Rattle.nuc_script.specs.declared.command.Command.TheVariants as command
+use Rattle.nuc_plain_script.specs.Grammar.{ComeBehind, IsBuilt, IsNew, IsScript, is_web}
+use Rattle.nuc_plain_script.specs.declared.command.Command.{Command}
+use Rattle.nuc_plain_script.specs.declared.command.Command.TheVariants as command
 use Rattle.nuc_folder.specs.declared.flat_edit.FlatEdit.{FlatEdit}
 use Rattle.nuc_folder.specs.declared.flat_edit.FlatEdit.TheVariants as edit
 use Rattle.nuc_hash.specs.declared.filling.Filling.TheVariants as filling

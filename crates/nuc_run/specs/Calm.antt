@@ -7,8 +7,8 @@ use Rattle.nuc_journal.specs.Entries.{tree_of, with_value}
 use Rattle.nuc_journal.specs.Journal.{IsLegalValue}
 use Rattle.nuc_journal.specs.declared.entry.Entry.{Entry}
 use Rattle.nuc_server.specs.WebEdits.{IsNextId}
-use Rattle.nuc_script.specs.declared.command.Command.{Command}
-use Rattle.nuc_script.specs.declared.command.Command.TheVariants as command
+use Rattle.nuc_plain_script.specs.declared.command.Command.{Command}
+use Rattle.nuc_plain_script.specs.declared.command.Command.TheVariants as command
 use Rattle.nuc_run.specs.State.{State}
 
 -- Remote is the server's tree at its cursor, and whoever is new is numbered above all that is there

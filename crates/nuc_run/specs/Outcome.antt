@@ -9,11 +9,11 @@ use Rattle.nuc_report.specs.Output.{output_of}
 use Rattle.nuc_report.specs.Report.{Seen}
 use Rattle.nuc_report.specs.declared.status.Status.{Status}
 use Rattle.nuc_report.specs.declared.status.Status.TheVariants as status
-use Rattle.nuc_script.specs.Grammar.{IsScript}
-use Rattle.nuc_script.specs.Reading.{ReadsScript}
-use Rattle.nuc_script.specs.Text.{script_text}
-use Rattle.nuc_script.specs.declared.command.Command.{Command}
-use Rattle.nuc_script.specs.declared.script_read.ScriptRead.TheVariants as read
+use Rattle.nuc_plain_script.specs.Grammar.{IsScript}
+use Rattle.nuc_plain_script.specs.Reading.{ReadsScript}
+use Rattle.nuc_plain_script.specs.Text.{script_text}
+use Rattle.nuc_plain_script.specs.declared.command.Command.{Command}
+use Rattle.nuc_plain_script.specs.declared.script_read.ScriptRead.TheVariants as read
 use Rattle.nuc_step.specs.declared.log.LogEntry.{LogEntry}
 use Rattle.nuc_run.specs.State.{State}
 use Rattle.nuc_journal.specs.Entries.{tree_of}

@@ -2,8 +2,8 @@
 use Rattle.std.specs.Prelude.{◌≡◌, ℕ, List, [], ◌∷◌, ◌++◌, cond, ◌==◌}
 use Rattle.std.specs.List.{flat_map}
 use Rattle.nuc_class.specs.declared.op.Op.{Op}
-use Rattle.nuc_script.specs.declared.command.Command.{Command}
-use Rattle.nuc_script.specs.declared.command.Command.TheVariants as command
+use Rattle.nuc_plain_script.specs.declared.command.Command.{Command}
+use Rattle.nuc_plain_script.specs.declared.command.Command.TheVariants as command
 use Rattle.nuc_step.specs.declared.event.Event.{Event}
 use Rattle.nuc_step.specs.declared.event.Event.TheVariants as event
 use Rattle.nuc_step.specs.declared.log.LogEntry.{LogEntry}

@@ -9,14 +9,14 @@ ghost use Rattle.nuc_run.specs.Sound.{IsExactThroughout, IsSoundThroughout};
 ghost use Rattle.nuc_run.specs.State.{fresh};
 ghost use Rattle.nuc_run.specs.Tasks.{tasks_of};
 ghost use Rattle.nuc_run.specs.World.{at_rest};
-ghost use Rattle.nuc_script.specs.Grammar.{IsBuilt, IsScript, is_web};
-ghost use Rattle.nuc_script.specs.Reading.{TookLines};
+ghost use Rattle.nuc_plain_script.specs.Grammar.{IsBuilt, IsScript, is_web};
+ghost use Rattle.nuc_plain_script.specs.Reading.{TookLines};
 ghost use Rattle.std.specs.String.{string_bytes};
 
 use crate::world::{CLIENT, World};
 use nuc_io::{Sink, Source, write_all};
+use nuc_plain_script::{Command, ScriptRead, read_script};
 use nuc_report::{Ended, Status, output as output_text, refusal};
-use nuc_script::{Command, ScriptRead, read_script};
 use nuc_step::{ClientView, Log, LogEntry, View};
 use std::alloc::{AllocError, Global};
 use std::rc::RcStr;

@@ -18,7 +18,7 @@ ghost use Rattle.nuc_run.specs.Tasks.{after_plan, once, plans, pulls, steps_of, 
 ghost use Rattle.nuc_run.specs.World.{at_rest, state_of};
 ghost use Rattle.nuc_server.specs.WebEdits.{all_stored};
 ghost use Rattle.nuc_step.specs.declared.event.Event.TheVariants as event;
-ghost use Rattle.nuc_script.specs.declared.command.Command.TheVariants as command;
+ghost use Rattle.nuc_plain_script.specs.declared.command.Command.TheVariants as command;
 ghost use Rattle.nuc_step.specs.declared.log.LogEntry.TheVariants as entry;
 ghost use Rattle.nuc_step.specs.declared.reply.DoneReply.TheVariants as done_reply;
 ghost use Rattle.nuc_step.specs.declared.reply.Reply.TheVariants as reply;

@@ -1,6 +1,7 @@
 use nuc_base::{NameFault, PutFault};
 use nuc_blocks::{AssembleFault, StoreFault};
 use nuc_edits::AdoptFault;
+use nuc_observe::ObserveFault;
 use std::alloc::AllocError;
 use std::io;
 use thiserror::Error;
@@ -8,7 +9,7 @@ use thiserror::Error;
 /// Why there is no answer.
 #[derive(Debug, Drop, Error)]
 pub(crate) enum Fault {
-    #[error("usage: nucleus_bench hash SIZE PIECE | nucleus_bench sha2 SIZE PIECE, in bytes | nucleus_bench many FILES SIZE | nucleus_bench store|journal|edits|tree|commits COUNT | nucleus_bench plan COUNT DIFFERING TIMES | nucleus_bench ask plain|index put|at|child|under|cut COUNT")]
+    #[error("usage: nucleus_bench hash SIZE PIECE | nucleus_bench sha2 SIZE PIECE, in bytes | nucleus_bench many FILES SIZE | nucleus_bench store|journal|edits|tree|commits COUNT | nucleus_bench listing COUNT none|same|changed | nucleus_bench plan COUNT DIFFERING TIMES | nucleus_bench ask plain|index put|at|child|under|cut COUNT")]
     Usage,
     #[error("a count is a number from 1 to 4000000")]
     Count,
@@ -26,6 +27,10 @@ pub(crate) enum Fault {
     Name(#[from] NameFault),
     #[error("a node isn't put: {0}")]
     Put(#[from] PutFault),
+    #[error("a listing isn't observed: {0}")]
+    Observe(#[from] ObserveFault),
+    #[error("what was observed can't be taken over")]
+    Untaken,
     #[error("a commit is refused")]
     Refused,
 }

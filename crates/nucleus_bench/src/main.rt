@@ -7,7 +7,10 @@ mod editing;
 mod fault;
 mod hashing;
 mod journaling;
+mod known;
 mod layout;
+mod listing;
+mod observing;
 mod pages;
 mod placing;
 mod planning;
@@ -18,7 +21,7 @@ mod trees;
 mod work;
 
 use fault::Fault;
-use std::alloc::Global;
+use std::alloc::{AllocError, Global};
 use std::process::ExitCode;
 use std::rt::Env;
 use std::thread::Threads;
@@ -53,6 +56,9 @@ fn run(rt: &(impl Threads + Sync), alloc: Global, words: &[String]) -> Result<St
         [work, count] => count_by(alloc, work.as_str(), count.as_str()),
         [command, files, size] if command.as_str() == "many" => {
             hashing::many(rt, alloc, number(files.as_str())?, number(size.as_str())?)
+        }
+        [command, count, kind] if command.as_str() == "listing" => {
+            observing::observations(alloc, count_of(count.as_str())?, kind.as_str())
         }
         [command, size, piece] => hash_by(
             alloc,
@@ -112,20 +118,46 @@ fn number(word: &str) -> Result<u64, Fault> {
 
 /// A little of each kind of work, to see that all of it runs.
 fn small(rt: &(impl Threads + Sync), alloc: Global) -> Result<String, Fault> {
+    let mut text = small_hashes(rt, alloc)?;
+    text.push_str(planning::plans(alloc, 70, 3, 2)?.as_str())?;
+    add_asks(alloc, &mut text)?;
+    add_listings(alloc, &mut text)?;
+    add_works(alloc, &mut text)?;
+    Ok(text)
+}
+
+fn small_hashes(rt: &(impl Threads + Sync), alloc: Global) -> Result<String, Fault> {
     let hash = hashing::hash(alloc, 1_000, 300)?;
     let sha2 = hashing::sha2(alloc, 1_000, 300)?;
     let many = hashing::many(rt, alloc, 3, 1_000)?;
-    let plan = planning::plans(alloc, 70, 3, 2)?;
-    let mut text = format!(in alloc; "hash {hash}\nsha2 {sha2}\nmany {many}\n{plan}")?;
+    Ok(format!(in alloc; "hash {hash}\nsha2 {sha2}\nmany {many}\n")?)
+}
+
+fn add_asks(alloc: Global, text: &mut String) -> Result<(), Fault> {
     for word in ["put", "at", "child", "under", "cut"] {
         let line = trees::ask_each(alloc, "index", word, 70)?;
-        text.push_str("\n")?;
-        text.push_str(line.as_str())?;
+        add_line(text, line.as_str())?;
     }
+    Ok(())
+}
+
+fn add_listings(alloc: Global, text: &mut String) -> Result<(), Fault> {
+    for kind in ["none", "same", "changed"] {
+        let line = observing::observations(alloc, 70, kind)?;
+        add_line(text, line.as_str())?;
+    }
+    Ok(())
+}
+
+fn add_works(alloc: Global, text: &mut String) -> Result<(), Fault> {
     for work in Work::ALL {
         let line = work.run(alloc, 70)?;
-        text.push_str("\n")?;
-        text.push_str(line.as_str())?;
+        add_line(text, line.as_str())?;
     }
-    Ok(text)
+    Ok(())
+}
+
+fn add_line(text: &mut String, line: &str) -> Result<(), AllocError> {
+    text.push_str("\n")?;
+    text.push_str(line)
 }

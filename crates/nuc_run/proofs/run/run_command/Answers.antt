@@ -1,5 +1,5 @@
 use Rattle.std.proofs.Common.{true, false, ◌≡◌, sym, ◌∙◌, ap, subst, refl}
-use Rattle.nuc_script.specs.Grammar.{is_web}
+use Rattle.nuc_plain_script.specs.Grammar.{is_web}
 use Rattle.nuc_run.specs.Calm.{is_sync}
 use Rattle.nuc_run.specs.Tasks.{tasks_of}
 use Rattle.nuc_run.specs.World.{at_rest}

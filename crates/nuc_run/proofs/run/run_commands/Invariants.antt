@@ -1,6 +1,6 @@
 use Rattle.std.proofs.Common.{◌≡◌, false, [], ◌∷◌, drop, take}
 use Rattle.std.specs.List.{list_any}
-use Rattle.nuc_script.specs.Grammar.{is_web}
+use Rattle.nuc_plain_script.specs.Grammar.{is_web}
 use Rattle.nuc_run.specs.Calm.{Calm}
 use Rattle.nuc_run.specs.Good.{Good}
 use Rattle.nuc_run.specs.Runs.{Did, opening}
