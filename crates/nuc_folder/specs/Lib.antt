@@ -1,10 +1,6 @@
 pub mod Answers
 pub mod Beside
 pub mod Codes
-pub mod FlatFolder
-pub mod FlatFormed
-pub mod FlatListing
-pub mod FlatWrite
 pub mod Listing
 pub mod Memory
 pub mod Outcome
@@ -13,3 +9,4 @@ pub mod State
 pub mod Removals
 pub mod User
 pub mod UserEdits
+pub mod Shelves

@@ -2,11 +2,6 @@
 #![tactic(auto)]
 
 mod changing;
-mod flat_edit;
-mod flat_file;
-mod flat_folder;
-#[cfg(test)]
-mod flat_tests;
 mod folder;
 mod item;
 mod key_place;
@@ -22,11 +17,15 @@ mod mem_tests;
 mod mem_trial;
 mod noticed;
 mod notices;
+mod opening;
+#[cfg(test)]
+mod opening_tests;
 mod outcome;
 mod ran;
 mod read_back;
 mod removal;
 mod seen;
+mod shelved;
 #[cfg(test)]
 mod tests;
 mod user;
@@ -37,8 +36,6 @@ mod user_tests;
 #[cfg(test)]
 mod user_trial;
 
-pub use flat_edit::{FlatEdit, FlatReply};
-pub use flat_folder::FlatFolder;
 pub use folder::Folder;
 pub use item::{Item, Key, RawName};
 pub use key_place::KeyPlace;
@@ -50,4 +47,5 @@ pub use outcome::Outcome;
 pub use ran::RanOp;
 pub use read_back::ReadBack;
 pub use seen::Seen;
+pub use shelved::{MOST_SHELVED, Shelved, ShelvedFault};
 pub use user_edit::{UserEdit, UserReply};

@@ -265,13 +265,12 @@ fn back_leads_to_what_was_settled(rt: HostRuntime) {
 fn back_counts_no_call(rt: HostRuntime) {
     let mut trial = Trial::new(rt.alloc());
     filled(&rt, &mut trial);
+    trial.settle();
     trial.fail_at(&rt, 2);
     trial.lists(&rt, &[A, D, E, F]);
     trial.back();
-    assert_eq!(&rt;
-        trial.call(&rt, Call::MakeDir((0, b"d"))),
-        Outcome::Made(Key(1))
-    );
-    assert_eq!(&rt; trial.call(&rt, Call::MakeDir((0, b"e"))), Outcome::Failed);
-    trial.holds(&rt, &[D]);
+    let made = trial.call(&rt, Call::MakeDir((0, b"g")));
+    assert_eq!(&rt; made, Outcome::Made(Key(5)));
+    let failed = trial.call(&rt, Call::MakeDir((0, b"h")));
+    assert_eq!(&rt; failed, Outcome::Failed);
 }

@@ -82,9 +82,7 @@ fn change(shelf: &mut Shelf, alloc: Global, key: u64, edit: &UserEdit) -> Result
 {
     match edit {
         UserEdit::Mkdir(path) => user_change::mkdir(shelf, alloc, key, path),
-        UserEdit::Write(path, filling) => {
-            user_change::write(shelf, alloc, key, path, filling.bytes())
-        }
+        UserEdit::Write(path, filling) => user_change::fill(shelf, alloc, key, path, filling),
         UserEdit::Move(from, to) => user_change::move_to(shelf, alloc, from, to),
         UserEdit::Bit(path, bit) => user_change::set_bit(shelf, alloc, path, *bit),
         UserEdit::Remove(_) => unreachable!(),

@@ -3,13 +3,14 @@ ghost use Rattle.std.specs.FinMap as map;
 ghost use Rattle.std.specs.Option.{option_copied};
 ghost use Rattle.nuc_base.specs.Trees.{IsFolder, IsVacant, WellFormed};
 ghost use Rattle.nuc_paths.specs.Paths.{place_in};
+ghost use Rattle.nuc_hash.specs.Filling.{filling_bytes};
 ghost use Rattle.nuc_shelf.specs.Shelf.{IsFile, IsShelf, file_at, folder_at};
 ghost use Rattle.nuc_folder.specs.Listing.{item_of};
 ghost use Rattle.nuc_folder.specs.UserEdits.{BitRefused, Finds, FindsNobody, FindsPlace, MakeRefused, MakesFolder, MoveRefused, Moves, key_place, SetsBit, WriteRefused, Writes, WritesNew, WritesOver};
 
 use crate::{Item, Key, KeyPlace, Noticed, UserReply};
 use nuc_base::{Kind, Name, Node, NodeId, Path, Place, TreeLike};
-use nuc_hash::Content;
+use nuc_hash::{Content, Filling};
 use nuc_paths::{follow, holder};
 use nuc_shelf::{Shelf, ShelfFile};
 use sqlite_items::Items;
@@ -36,8 +37,32 @@ pub(crate) fn mkdir(
     Ok(Noticed::Made(item))
 }
 
-/// Makes a file, under a new key, or gives one that is there other bytes.
-pub(crate) fn write(
+/// Makes a file, under a new key, or gives one that is there other bytes: those of a content that an edit gives.
+pub(crate) fn fill(
+    shelf: &mut Shelf,
+    alloc: Global,
+    key: u64,
+    path: &Path,
+    filling: &Filling,
+) -> Result<Noticed, UserReply>
+    requires key { 0 < key }
+    requires absent { map.get shelf.old.now.tree key ≡ None }
+    ensures ok { IfOk result (λ notice. Writes key shelf.old.now path.now.names (filling_bytes filling.now) notice shelf.new.now) }
+    ensures refused { IfErr result (λ reply. WriteRefused shelf.old.now.tree path.now.names reply) }
+    ensures err { OnErr result (shelf.new.now ≡ shelf.old.now) }
+    ensures settled { shelf.new.settled ≡ shelf.old.settled }
+    ensures shelf { IsShelf shelf.new.now }
+{
+    // Contracts learn from it that the shelf is sound.
+    let _tree = shelf.tree();
+    match filling.bytes(alloc) {
+        Ok(bytes) => write(shelf, alloc, key, path, bytes.as_slice()),
+        Err(_) => Err(UserReply::Memory),
+    }
+}
+
+/// As `fill`, of the bytes themselves.
+fn write(
     shelf: &mut Shelf,
     alloc: Global,
     key: u64,

@@ -10,7 +10,7 @@ mod taken;
 
 pub use content::{BLOCK, Content, content_of, is_of_its_blocks, of_blocks};
 pub use digest::{Digest, hash_text};
-pub use filling::Filling;
+pub use filling::{Filled, Filling};
 pub use hasher::Hasher;
 
 #[cfg(test)]

@@ -103,6 +103,18 @@ fn takes_the_right_number_of_blocks(rt: HostRuntime) -> Result<(), Fail> {
 #[test]
 fn fills_a_file(rt: HostRuntime) -> Result<(), Fail> {
     let filling = Filling::Given(Items::from_slice(rt.alloc(), b"hello")?);
-    assert_eq!(rt; filling.copy(rt.alloc())?.bytes(), b"hello".as_slice());
+    let copy = filling.copy(rt.alloc())?;
+    assert_eq!(rt; copy.bytes(rt.alloc())?.as_slice(), b"hello".as_slice());
+    Ok(())
+}
+
+#[test]
+fn repeats_a_byte(rt: HostRuntime) -> Result<(), Fail> {
+    let filling = Filling::Repeat {
+        count: 3,
+        byte: b'a',
+    };
+    let copy = filling.copy(rt.alloc())?;
+    assert_eq!(rt; copy.bytes(rt.alloc())?.as_slice(), b"aaa".as_slice());
     Ok(())
 }

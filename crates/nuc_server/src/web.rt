@@ -74,16 +74,7 @@ impl LoopServer {
         match edit {
             WebEdit::Mkdir(_) => mkdir(self, alloc, parent, name, ids),
             WebEdit::Write(_, filling) => {
-                write(
-                    self,
-                    alloc,
-                    parent,
-                    name,
-                    filling.bytes(),
-                    store,
-                    edits,
-                    ids,
-                )
+                write(self, alloc, parent, name, filling, store, edits, ids)
             }
             WebEdit::Move(_, to) => relocate(self, alloc, parent, name, to, ids),
             WebEdit::Remove(_) => remove(self, alloc, parent, name, edits, ids),

@@ -5,6 +5,7 @@ ghost use Rattle.nuc_base.specs.Legal.{LegalPut};
 ghost use Rattle.nuc_base.specs.Trees.{IsFolder, IsVacant};
 ghost use Rattle.nuc_edits.specs.Edits.{IsNext, both_same};
 ghost use Rattle.nuc_hash.specs.Content as hash;
+ghost use Rattle.nuc_hash.specs.Filling.{filling_bytes};
 ghost use Rattle.nuc_journal.specs.Entries.{tree_of};
 ghost use Rattle.nuc_journal.specs.Journal.{HadKind, IsJournal};
 ghost use Rattle.nuc_paths.specs.Paths.{place_in};
@@ -14,7 +15,7 @@ use crate::{LoopServer, WebReply};
 use nuc_base::{Counters, Kind, Name, Node, NodeId, Place, Ver};
 use nuc_blocks::{Store, keep_blocks};
 use nuc_edits::{EditKind, Edits};
-use nuc_hash::{Content, content_of};
+use nuc_hash::{Content, Filling, content_of};
 use nuc_paths::holder;
 use std::alloc::{AllocError, Global};
 
@@ -24,7 +25,7 @@ pub(crate) fn write(
     alloc: Global,
     parent: NodeId,
     name: &Name,
-    bytes: &[u8],
+    filling: &Filling,
     store: &mut Store,
     edits: &mut Edits,
     ids: &mut Counters,
@@ -33,7 +34,7 @@ pub(crate) fn write(
     requires versions { IsNext ids.old.next_ver edits.old.now.edits }
     requires journal { IsJournal server.old.now }
     requires identities { IsNextId ids.old.next_id server.old.now }
-    ensures answers { WriteAnswers (record { entries = server.old.now; blocks = store.old.now; edits = edits.old.now; ids = ids.old }) (place_in parent.0 name.now) bytes.now result (record { entries = server.new.now; blocks = store.new.now; edits = edits.new.now; ids = ids.new }) }
+    ensures answers { WriteAnswers (record { entries = server.old.now; blocks = store.old.now; edits = edits.old.now; ids = ids.old }) (place_in parent.0 name.now) (filling_bytes filling.now) result (record { entries = server.new.now; blocks = store.new.now; edits = edits.new.now; ids = ids.new }) }
     ensures versions { IsNext ids.new.next_ver edits.new.now.edits }
     ensures identities { IsNextId ids.new.next_id server.new.now }
     ensures journal { IsJournal server.new.now }
@@ -42,11 +43,20 @@ pub(crate) fn write(
     ensures settled_edits { edits.new.settled ≡ edits.old.settled }
 {
     match holder(server.tree(), parent, name) {
-        Some((id, node)) => match node.copy(alloc) {
-            Ok(node) => write_over(server, alloc, id, node, bytes, store, edits, ids),
+        Some((id, node)) => match (node.copy(alloc), filling.bytes(alloc)) {
+            (Ok(node), Ok(bytes)) => {
+                let bytes = bytes.as_slice();
+                write_over(server, alloc, id, node, bytes, store, edits, ids)
+            }
+            _ => WebReply::Memory,
+        },
+        None => match filling.bytes(alloc) {
+            Ok(bytes) => {
+                let bytes = bytes.as_slice();
+                write_new(server, alloc, parent, name, bytes, store, edits, ids)
+            }
             Err(_) => WebReply::Memory,
         },
-        None => write_new(server, alloc, parent, name, bytes, store, edits, ids),
     }
 }
 
