@@ -7,7 +7,7 @@ use Rattle.std.proofs.lemmas.Bool.Decides.{nat_tests}
 use Rattle.std.proofs.lemmas.List.Concat.{flat_map-cons}
 use Rattle.nuc_base.specs.declared.path.Path.{Path}
 use Rattle.nuc_hash.specs.declared.filling.Filling.{Filling}
-use Rattle.nuc_hash.specs.declared.filling.Filling.TheVariants.{Given}
+use Rattle.nuc_hash.specs.declared.filling.Filling.TheVariants.{Given, Repeat}
 use Rattle.nuc_script.specs.declared.fault.LineFault.{LineFault}
 use Rattle.nuc_script.specs.declared.fault.LineFault.TheVariants as fault
 use Rattle.nuc_script.specs.Escapes.{unescaped}
@@ -17,9 +17,10 @@ use Rattle.nuc_script.specs.Contents.{content_of}
 use Rattle.nuc_script.specs.Arguments.{or_fault, client_word, number_word, path_word, content_word, switch_word, order_word}
 use Rattle.nuc_script.specs.Text.{escape_text, escaped, path_text, content_text, switch_text}
 use Rattle.nuc_script.proofs.Numbers.{number_some}
-use Rattle.nuc_script.proofs.Printed.{IsGraphic, IsDigit, plain_first, unescaped_back, escaped_graphic, decimal_number}
+use Rattle.nuc_script.proofs.Printed.{IsGraphic, unescaped_back, escaped_graphic, decimal_number}
 use Rattle.nuc_script.proofs.JoinedWords.{IsWord}
 use Rattle.nuc_script.proofs.PathsBack.{IsPath, plain_path, path_escaped, path_back, path_is_word, plain_bytes}
+use Rattle.nuc_script.proofs.RepeatsBack.{unescaped_digits, digits_graphic, unescaped_repeat, repeated_back, repeat_graphic}
 use Rattle.nuc_script.proofs.Bytes.{AreBytes, HasBytes, unescaped_bytes, path_is, content_is, within_is, within_back}
 
 pub found : {A : Type 0} (kind : LineFault) (o : Option A) (x : A) → or_fault kind o ≡ Ok x → o ≡ Some x
@@ -27,15 +28,6 @@ found kind None x e = absurd cc
 found kind (Some y) x e = cc
 
 -- NUMBERS
-unescaped_digits : (word : List ℕ) → AllByRecursion IsDigit word → unescaped word ≡ word
-unescaped_digits [] all = refl
-unescaped_digits (b ∷ word) ((low, high), all) =
-    plain_first b word (λ same. omega (arith, low, same)) ∙ ap (λ l. b ∷ l) (unescaped_digits word all)
-
-digits_graphic : (word : List ℕ) → AllByRecursion IsDigit word → AllByRecursion IsGraphic word
-digits_graphic [] all = tt
-digits_graphic (b ∷ word) ((low, high), all) = ((omega (arith, low), omega (arith, high)), digits_graphic word all)
-
 decimal_read : (n : ℕ) → n < 2 ^ 64 → number_of (unescaped (decimal n)) ≡ Some n
 decimal_read n small =
     let number = decimal_number n small in
@@ -93,10 +85,14 @@ unfolding content_word
 content_word_back (Given bytes) all =
     ap (λ l. or_fault fault.Content (content_of (unescaped l))) (content_escaped bytes)
     ∙ ap (λ l. or_fault fault.Content (content_of l)) (unescaped_back (61 ∷ bytes) (omega arith, all))
+content_word_back (Repeat count byte) (small, few) =
+    ap (λ l. or_fault fault.Content (content_of l)) (unescaped_repeat count byte small few)
+    ∙ ap (or_fault fault.Content) (repeated_back count byte small few)
 
 pub content_text_word : (content : Filling) → HasBytes content → IsWord (content_text content)
 content_text_word (Given bytes) all =
     record { some = omega arith; graphic = subst (AllByRecursion IsGraphic) (sym (content_escaped bytes)) (escaped_graphic (61 ∷ bytes) (omega arith, all)) }
+content_text_word (Repeat count byte) (small, few) = record { some = omega arith; graphic = repeat_graphic count byte small few }
 
 -- WORDS OF THE TABLE
 abbrev pub are_graphic : List ℕ → Bool

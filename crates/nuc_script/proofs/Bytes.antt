@@ -6,7 +6,7 @@ use Rattle.std.proofs.lemmas.Bool.Decides.{nat_tests}
 use Rattle.std.proofs.lemmas.List.Elements.{All-nil, All-cons}
 use Rattle.nuc_base.specs.declared.path.Path.{Path}
 use Rattle.nuc_hash.specs.declared.filling.Filling.{Filling}
-use Rattle.nuc_hash.specs.declared.filling.Filling.TheVariants.{Given}
+use Rattle.nuc_hash.specs.declared.filling.Filling.TheVariants.{Given, Repeat}
 use Rattle.nuc_script.specs.Escapes.{hex_value, byte_of, escape, undone, unescaped}
 use Rattle.nuc_script.specs.Numbers.{number_of, within}
 use Rattle.nuc_script.specs.Paths.{are_names, names_in, path_with, path_of, pieces}
@@ -119,41 +119,6 @@ path_is (b ∷ bs) path (small, all) e =
       | false ↦ λ h. absurd cc
     ] e
 
--- a content of bytes
-abbrev pub HasBytes : Filling → Type 0
-HasBytes (Given bytes) = AreBytes bytes
-
-replicate_bytes : (n b : ℕ) → b < 256 → AreBytes (replicate n b)
-replicate_bytes zero b small = tt
-replicate_bytes (suc n) b small = (small, replicate_bytes n b small)
-
-filled_bytes : (count byte : Option ℕ) (content : Filling) → IfSome byte IsByte → filled count byte ≡ Some content → HasBytes content
-filled_bytes None byte content small e = absurd cc
-filled_bytes (Some n) None content small e = absurd cc
-filled_bytes (Some n) (Some b) content small e = subst HasBytes (some_is (Given (replicate n b)) content e) (replicate_bytes n b small)
-
-hex_byte_small : (bytes : List ℕ) → IfSome (hex_byte bytes) IsByte
-hex_byte_small [] = tt
-hex_byte_small (high ∷ []) = tt
-hex_byte_small (high ∷ low ∷ []) = byte_small (hex_value high) (hex_value low) (hex_small high) (hex_small low)
-hex_byte_small (high ∷ low ∷ next ∷ bytes) = tt
-
-repeated_bytes : (bytes : List ℕ) (content : Filling) → repeated bytes ≡ Some content → HasBytes content
-repeated_bytes bytes content e =
-    filled_bytes (within 0 67108864 (number_of (before_first (λ b. b == 58) bytes))) (hex_byte (after_first (λ b. b == 58) bytes)) content
-    (hex_byte_small (after_first (λ b. b == 58) bytes)) e
-
-pub content_is : (word : List ℕ) (content : Filling) → AreBytes word → content_of word ≡ Some content → HasBytes content
-content_is [] content all e = absurd cc
-content_is (b ∷ bs) content (small, all) e =
-    elim (b == 61) as (λ t. cond t (Some (Given bs)) (cond (b == 42) (repeated bs) None) ≡ Some content → HasBytes content) [
-      | true ↦ λ h. subst HasBytes (some_is (Given bs) content h) all
-      | false ↦ λ h. elim (b == 42) as (λ t. cond t (repeated bs) None ≡ Some content → HasBytes content) [
-        | true ↦ λ g. repeated_bytes bs content g
-        | false ↦ λ g. absurd cc
-      ] h
-    ] e
-
 pub within_is : (least most : ℕ) (o : Option ℕ) (n : ℕ) → within least most o ≡ Some n → (least ≤ n) × (n ≤ most)
 within_is least most None n e = absurd cc
 within_is least most (Some m) n e =
@@ -168,6 +133,40 @@ within_is least most (Some m) n e =
             (omega (arith, same, low), omega (arith, same, high))
       ] refl h
     ] refl e
+
+-- a content that a script can give
+abbrev pub HasBytes : Filling → Type 0
+HasBytes (Given bytes) = AreBytes bytes
+HasBytes (Repeat count byte) = IsByte byte × (count ≤ 67108864)
+
+filled_bytes : (count byte : Option ℕ) (content : Filling) → ((n : ℕ) → count ≡ Some n → n ≤ 67108864) → IfSome byte IsByte
+    → filled count byte ≡ Some content → HasBytes content
+filled_bytes None byte content few small e = absurd cc
+filled_bytes (Some n) None content few small e = absurd cc
+filled_bytes (Some n) (Some b) content few small e = subst HasBytes (some_is (Repeat n b) content e) (small, few n refl)
+
+hex_byte_small : (bytes : List ℕ) → IfSome (hex_byte bytes) IsByte
+hex_byte_small [] = tt
+hex_byte_small (high ∷ []) = tt
+hex_byte_small (high ∷ low ∷ []) = byte_small (hex_value high) (hex_value low) (hex_small high) (hex_small low)
+hex_byte_small (high ∷ low ∷ next ∷ bytes) = tt
+
+repeated_bytes : (bytes : List ℕ) (content : Filling) → repeated bytes ≡ Some content → HasBytes content
+repeated_bytes bytes content e =
+    let count = number_of (before_first (λ b. b == 58) bytes) in
+    filled_bytes (within 0 67108864 count) (hex_byte (after_first (λ b. b == 58) bytes)) content
+    (λ n is. (within_is 0 67108864 count n is).1) (hex_byte_small (after_first (λ b. b == 58) bytes)) e
+
+pub content_is : (word : List ℕ) (content : Filling) → AreBytes word → content_of word ≡ Some content → HasBytes content
+content_is [] content all e = absurd cc
+content_is (b ∷ bs) content (small, all) e =
+    elim (b == 61) as (λ t. cond t (Some (Given bs)) (cond (b == 42) (repeated bs) None) ≡ Some content → HasBytes content) [
+      | true ↦ λ h. subst HasBytes (some_is (Given bs) content h) all
+      | false ↦ λ h. elim (b == 42) as (λ t. cond t (repeated bs) None ≡ Some content → HasBytes content) [
+        | true ↦ λ g. repeated_bytes bs content g
+        | false ↦ λ g. absurd cc
+      ] h
+    ] e
 
 pub within_back : (least most n : ℕ) → least ≤ n → n ≤ most → within least most (Some n) ≡ Some n
 within_back least most n low high =

@@ -11,7 +11,7 @@ use Rattle.nuc_base.specs.Names.{IsName, is_plain, good_len}
 use Rattle.nuc_base.specs.declared.path.Path.{Path}
 use Rattle.nuc_base.proofs.Names.{text_of_len, plain_of_len, take_plain}
 use Rattle.nuc_hash.specs.declared.filling.Filling.{Filling}
-use Rattle.nuc_hash.specs.declared.filling.Filling.TheVariants.{Given}
+use Rattle.nuc_hash.specs.declared.filling.Filling.TheVariants.{Given, Repeat}
 use Rattle.nuc_script.specs.declared.fault.LineFault.TheVariants as fault
 use Rattle.nuc_script.specs.Escapes.{escape, undone, unescaped}
 use Rattle.nuc_script.specs.Numbers.{number_of, within}
@@ -127,7 +127,7 @@ replicate_len (suc n) b = ap suc (replicate_len n b)
 filled_is : (count byte : Option ℕ) (content : Filling) → ((n : ℕ) → count ≡ Some n → n ≤ 67108864) → filled count byte ≡ Some content → FitsContent content
 filled_is None byte content small e = absurd cc
 filled_is (Some n) None content small e = absurd cc
-filled_is (Some n) (Some b) content small e = subst FitsContent (content_same (Given (replicate n b)) content e) (omega (arith, replicate_len n b, small n refl))
+filled_is (Some n) (Some b) content small e = subst FitsContent (content_same (Repeat n b) content e) (omega (arith, replicate_len n b, small n refl))
 
 filled_fits : (o byte : Option ℕ) (content : Filling) → filled (within 0 67108864 o) byte ≡ Some content → FitsContent content
 filled_fits o byte content e = filled_is (within 0 67108864 o) byte content (λ n is. (within_is 0 67108864 o n is).1) e

@@ -9,6 +9,7 @@ pub mod Printed
 pub mod JoinedWords
 pub mod PathsBack
 pub mod Bytes
+pub mod RepeatsBack
 pub mod ArgumentsBack
 pub mod EditsBack
 pub mod CommandsBack

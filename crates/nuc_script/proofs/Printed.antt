@@ -5,7 +5,7 @@ use Rattle.std.specs.List.{AllByRecursion}
 use Rattle.std.proofs.lemmas.Bool.Decides.{nat_tests}
 use Rattle.std.proofs.lemmas.List.Concat.{flat_map-cons}
 use Rattle.std.proofs.lemmas.Fmt.{decimal_by_steps}
-use Rattle.nuc_script.specs.Escapes.{hex_value, unescaped}
+use Rattle.nuc_script.specs.Escapes.{hex_value, byte_of, undone, unescaped}
 use Rattle.nuc_script.specs.Numbers.{number_behind}
 use Rattle.nuc_script.specs.Text.{is_plain, hex_digit, escape_text, escaped}
 
@@ -51,12 +51,16 @@ plain_first b [] other = refl
 plain_first b (c ∷ []) other = refl
 plain_first b (c ∷ d ∷ bs) other = let test : (b == 37) ≡ false = grind (arith, nat_tests) in rw test refl
 
-undone_first : (b : ℕ) (rest : List ℕ) → b < 256 → unescaped (37 ∷ hex_digit (b / 16) ∷ hex_digit (b % 16) ∷ rest) ≡ b ∷ unescaped rest
-undone_first b rest small =
+-- the two digits of a byte give it again
+pub digits_back : (b : ℕ) → b < 256 → byte_of (hex_value (hex_digit (b / 16))) (hex_value (hex_digit (b % 16))) ≡ Some b
+digits_back b small =
     let high = hex_back (b / 16) (omega arith) in
     let low = hex_back (b % 16) (omega arith) in
     let whole : b / 16 * 16 + b % 16 ≡ b = omega arith in
-    rw (high, low, whole) refl
+    rw (high, low) (ap Some whole)
+
+undone_first : (b : ℕ) (rest : List ℕ) → b < 256 → unescaped (37 ∷ hex_digit (b / 16) ∷ hex_digit (b % 16) ∷ rest) ≡ b ∷ unescaped rest
+undone_first b rest small = ap (λ o. undone o (unescaped rest) (37 ∷ unescaped (hex_digit (b / 16) ∷ hex_digit (b % 16) ∷ rest))) (digits_back b small)
 
 plain_both : (a b c : Bool) → (a && b && c) ≡ true → (a ≡ true) × (b ≡ true) × (c ≡ true)
 plain_both true true true e = (refl, refl, refl)
@@ -89,7 +93,7 @@ unescaped_back (b ∷ bytes) (small, all) =
     ap unescaped (flat_map-cons escape_text b bytes) ∙ first_back b (escaped bytes) small ∙ ap (λ l. b ∷ l) (unescaped_back bytes all)
 
 -- ITS BYTES
-digit_graphic : (v : ℕ) → v < 16 → IsGraphic (hex_digit v)
+pub digit_graphic : (v : ℕ) → v < 16 → IsGraphic (hex_digit v)
 digit_graphic v small =
     elim (nat_lt v 10) as (λ t. IsGraphic (cond t (48 + v) (55 + v))) [ true ↦ (omega arith, omega arith) | false ↦ (omega arith, omega arith) ]
 

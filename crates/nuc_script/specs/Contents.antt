@@ -1,8 +1,8 @@
 -- Contents: `=` and bytes, or `*N:HH`, which is N times the byte HH.
-use Rattle.std.specs.Prelude.{ℕ, ◌==◌, List, [], ◌∷◌, replicate, Option, Some, None, if◌then◌else◌}
+use Rattle.std.specs.Prelude.{ℕ, ◌==◌, List, [], ◌∷◌, Option, Some, None, if◌then◌else◌}
 use Rattle.std.specs.List.{before_first, after_first}
 use Rattle.nuc_hash.specs.declared.filling.Filling.{Filling}
-use Rattle.nuc_hash.specs.declared.filling.Filling.TheVariants.{Given}
+use Rattle.nuc_hash.specs.declared.filling.Filling.TheVariants.{Given, Repeat}
 use Rattle.nuc_script.specs.Escapes.{hex_value, byte_of}
 use Rattle.nuc_script.specs.Numbers.{number_of, within}
 
@@ -16,7 +16,7 @@ hex_byte (high ∷ low ∷ next ∷ bytes) = None
 abbrev pub filled : Option ℕ → Option ℕ → Option Filling
 filled None byte = None
 filled (Some count) None = None
-filled (Some count) (Some byte) = Some (Given (replicate count byte))
+filled (Some count) (Some byte) = Some (Repeat count byte)
 
 -- `N:HH`
 abbrev pub repeated : List ℕ → Option Filling

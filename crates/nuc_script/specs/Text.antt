@@ -3,7 +3,7 @@ use Rattle.std.specs.Prelude.{ℕ, ◌+◌, ◌/◌, ◌%◌, ◌==◌, ◌&&◌
 use Rattle.std.specs.List.{flat_map}
 use Rattle.nuc_base.specs.declared.path.Path.{Path}
 use Rattle.nuc_hash.specs.declared.filling.Filling.{Filling}
-use Rattle.nuc_hash.specs.declared.filling.Filling.TheVariants.{Given}
+use Rattle.nuc_hash.specs.declared.filling.Filling.TheVariants.{Given, Repeat}
 use Rattle.nuc_folder.specs.declared.user_edit.UserEdit.{UserEdit}
 use Rattle.nuc_folder.specs.declared.user_edit.UserEdit.TheVariants as user
 use Rattle.nuc_server.specs.declared.web_edit.WebEdit.{WebEdit}
@@ -36,9 +36,10 @@ escaped bytes = flat_map escape_text bytes
 abbrev pub path_text : Path → List ℕ
 path_text path = flat_map (λ name. 47 ∷ escaped name) path.names
 
--- `=` and the bytes
+-- `=` and the bytes, or `*N:HH`
 abbrev pub content_text : Filling → List ℕ
 content_text (Given bytes) = 61 ∷ escaped bytes
+content_text (Repeat count byte) = 42 ∷ decimal count ++ 58 ∷ hex_digit (byte / 16) ∷ hex_digit (byte % 16) ∷ []
 
 abbrev pub switch_text : Bool → List ℕ
 switch_text true = codes "on"

@@ -20,30 +20,19 @@ pub(crate) fn content_of(alloc: Global, bytes: &[u8]) -> Result<Option<Filling>,
     };
     match *first {
         b'=' => Ok(Some(Filling::Given(Items::from_slice(alloc, text)?))),
-        b'*' => repeated(alloc, text),
+        b'*' => Ok(repeated(text)),
         _ => Ok(None),
     }
 }
 
 /// Reads `N:HH`.
-fn repeated(alloc: Global, text: &[u8]) -> Result<Option<Filling>, AllocError>
-    ensures { IfOk result (λ found. found ≡ repeated text.now) }
+fn repeated(text: &[u8]) -> Option<Filling>
+    ensures { result ≡ repeated text.now }
 {
     let (count, behind) = cut(text, b':');
-    let Some(count) = number_within(count, 0, MOST_BYTES) else {
-        return Ok(None);
-    };
-    let byte = match behind {
-        Some(digits) => hex_byte(digits),
-        None => None,
-    };
-    match byte {
-        Some(byte) => {
-            let bytes = vec![in alloc; byte; count as usize]?;
-            Ok(Some(Filling::Given(Items::from_vec(bytes))))
-        }
-        None => Ok(None),
-    }
+    let count = number_within(count, 0, MOST_BYTES)?;
+    let byte = hex_byte(behind?)?;
+    Some(Filling::Repeat { count, byte })
 }
 
 /// The byte that two hexadecimal digits are.

@@ -21,7 +21,8 @@ mod words;
 
 pub use command::Command;
 pub use fault::LineFault;
-pub use print::{is_read_again, print_script};
+pub use print::{is_read_again, print_script, web_line};
+pub use print_words::{content_text, path_text, push_escaped, switch_text};
 pub use read::read_script;
 pub use script_read::{ScriptRead, has_fitting_commands, is_read_in_one_way};
 

@@ -86,8 +86,8 @@ fn user_line(alloc: Global, client: u32, edit: &UserEdit) -> Result<String, Allo
     }
 }
 
-/// The line of a web edit.
-fn web_line(alloc: Global, edit: &WebEdit) -> Result<String, AllocError>
+/// The line of a web edit, without its LF.
+pub fn web_line(alloc: Global, edit: &WebEdit) -> Result<String, AllocError>
     ensures { IfOk result (λ line. string_bytes line ≡ joined (web_words edit.now)) }
 {
     match edit {

@@ -1,4 +1,4 @@
-ghost use Rattle.std.specs.Prelude.{◌≡◌, ◌++◌, ◌<◌, IfOk, OnOk, true};
+ghost use Rattle.std.specs.Prelude.{◌≡◌, ◌++◌, ◌∷◌, [], ◌/◌, ◌%◌, ◌<◌, IfOk, OnOk, true};
 ghost use Rattle.std.specs.String.{string_bytes};
 ghost use Rattle.nuc_script.specs.Text.{content_text, escape_text, escaped, hex_digit, is_plain, path_text, switch_text};
 
@@ -6,7 +6,8 @@ use nuc_base::Path;
 use nuc_hash::Filling;
 use std::alloc::{AllocError, Global};
 
-pub(crate) fn path_text(alloc: Global, path: &Path) -> Result<String, AllocError>
+/// A path in the strict form: a `/` before each name, with escapes.
+pub fn path_text(alloc: Global, path: &Path) -> Result<String, AllocError>
     ensures { IfOk result (λ text. string_bytes text ≡ path_text path.now) }
 {
     let mut text = String::new(alloc);
@@ -17,22 +18,33 @@ pub(crate) fn path_text(alloc: Global, path: &Path) -> Result<String, AllocError
     Ok(text)
 }
 
-pub(crate) fn content_text(alloc: Global, content: &Filling) -> Result<String, AllocError>
+/// A content in the strict form: in the form in which it was given, with escapes.
+pub fn content_text(alloc: Global, content: &Filling) -> Result<String, AllocError>
     ensures { IfOk result (λ text. string_bytes text ≡ content_text content.now) }
 {
-    let Filling::Given(bytes) = content;
-    let mut text = String::from_str(alloc, "=")?;
-    push_escaped(&mut text, bytes.as_slice())?;
-    Ok(text)
+    match content {
+        Filling::Given(bytes) => {
+            let mut text = String::from_str(alloc, "=")?;
+            push_escaped(&mut text, bytes.as_slice())?;
+            Ok(text)
+        }
+        Filling::Repeat { count, byte } => {
+            let mut text = format!(in alloc; "*{count}:")?;
+            push_digits(&mut text, *byte)?;
+            Ok(text)
+        }
+    }
 }
 
-pub(crate) fn switch_text(on: bool) -> &'static str
+/// The word for a bit that is set, or isn't.
+pub fn switch_text(on: bool) -> &'static str
     ensures { result.now ≡ switch_text on }
 {
     if on { "on" } else { "off" }
 }
 
-fn push_escaped(text: &mut String, bytes: &[u8]) -> Result<(), AllocError>
+/// Pushes bytes as they are printed: those from `!` to `~` but `%` as they are, each other one as `%` and two digits.
+pub fn push_escaped(text: &mut String, bytes: &[u8]) -> Result<(), AllocError>
     ensures { OnOk result (string_bytes text.new ≡ string_bytes text.old ++ escaped bytes.now) }
 {
     for byte in bytes {
@@ -48,6 +60,13 @@ fn push_byte(text: &mut String, byte: u8) -> Result<(), AllocError>
         return text.push(char::from(byte));
     }
     text.push('%')?;
+    push_digits(text, byte)
+}
+
+/// Pushes the two digits of a byte.
+fn push_digits(text: &mut String, byte: u8) -> Result<(), AllocError>
+    ensures { OnOk result (string_bytes text.new ≡ string_bytes text.old ++ hex_digit (byte / 16) ∷ hex_digit (byte % 16) ∷ []) }
+{
     text.push(hex_digit(byte / 16))?;
     text.push(hex_digit(byte % 16))
 }

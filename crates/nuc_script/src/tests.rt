@@ -1,4 +1,6 @@
-use crate::{LineFault, ScriptRead, print_script, read_script};
+use crate::{Command, LineFault, ScriptRead, print_script, read_script};
+use nuc_folder::UserEdit;
+use nuc_hash::Filling;
 use nuc_io::MemSource;
 use std::alloc::{AllocError, Global};
 use std::test::Fail;
@@ -78,12 +80,44 @@ fn lines_are_read_leniently(rt: HostRuntime) -> Result<(), Fail> {
             b"write 1 /\xC3\xA4 =%00%fF~".as_slice(),
             "write 1 /%C3%A4 =%00%FF~\n",
         ),
-        (b"write 1 /a *3:4a".as_slice(), "write 1 /a =JJJ\n"),
-        (b"write 1 /a *0:ff\n".as_slice(), "write 1 /a =\n"),
+        (b"write 1 /a *3:4a".as_slice(), "write 1 /a *3:4A\n"),
+        (b"write 1 /a *0:ff\n".as_slice(), "write 1 /a *0:FF\n"),
     ];
     for (text, strict) in table {
         assert!(rt; is_strictly(alloc, text, strict)?);
     }
+    Ok(())
+}
+
+/// Whether the commands are one, by which client 1 writes a file of three bytes `J`, given as a repetition.
+fn write_three_bytes(commands: &[Command]) -> bool {
+    match commands {
+        [
+            Command::User {
+                client: 1,
+                edit: UserEdit::Write(_, content),
+            },
+        ] => matches!(
+            content,
+            Filling::Repeat {
+                count: 3,
+                byte: 0x4A
+            }
+        ),
+        _ => false,
+    }
+}
+
+#[test]
+fn a_repetition_keeps_its_form(rt: HostRuntime) -> Result<(), Fail> {
+    let alloc = rt.alloc();
+    let text = b"write 1 /z *3:4a".as_slice();
+    let kept = match read_text(alloc, text)? {
+        ScriptRead::Commands(commands) => write_three_bytes(commands.as_slice()),
+        _ => false,
+    };
+    assert!(rt; kept);
+    assert!(rt; is_strictly(alloc, text, "write 1 /z *3:4A\n")?);
     Ok(())
 }
 
