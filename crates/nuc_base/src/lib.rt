@@ -4,7 +4,6 @@
 
 mod change;
 mod copy_name;
-mod fault;
 mod hashes;
 mod laws;
 mod legal;
@@ -22,7 +21,6 @@ mod tree_fault;
 
 pub use change::Change;
 pub use copy_name::candidates_differ;
-pub use fault::LineFault;
 pub use hashes::Hashes;
 pub use laws::{either_order, every_order, legal_keeps_form};
 pub use legal::{cut_legal, put_legal};

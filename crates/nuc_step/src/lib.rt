@@ -1,4 +1,4 @@
-//! A client with its steps; the events of a run, the replies to them, and the log of both.
+//! A client with its steps.
 #![tactic(auto)]
 
 mod answers;
@@ -7,12 +7,10 @@ mod client;
 #[cfg(test)]
 mod client_tests;
 mod counts;
-mod event;
 mod held;
 mod landing;
 mod launch;
 mod laws;
-mod log;
 mod noticing;
 mod noting;
 mod order;
@@ -24,27 +22,21 @@ mod scanning;
 mod stages;
 mod taking;
 #[cfg(test)]
-mod tests;
-#[cfg(test)]
 mod trial;
 mod turning;
-mod view;
 mod watched;
 mod watching;
 
 pub use answers::{FlyReply, ListReply, NoSuchOp, Planned, Scanned, TakeFault, WatchReply};
 pub use client::Client;
-pub use event::Event;
 pub use laws::{
     a_done_ends_in_one_way, a_done_writes_one_identity, a_move_keeps_its_identity,
     a_plan_keeps_a_client, a_scan_keeps_what_it_needs, a_step_brings_nothing_else,
     a_watch_keeps_what_it_needs, each_step_keeps_a_client, what_stays_keeps_its_key,
 };
-pub use log::{Log, LogEntry};
 pub use order::{
     a_batch_is_ready, a_mend_is_ready, one_client_in_every_order, what_is_ready_is_applied,
     what_is_ready_stays_ready,
 };
 pub use reason::Reason;
-pub use reply::{DoneReply, MarkReply, PlanReply, Reply, ScanReply, StartReply, TakeReply};
-pub use view::{ClientView, View};
+pub use reply::DoneReply;
