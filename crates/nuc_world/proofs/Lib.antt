@@ -1,19 +1,39 @@
+pub mod Accounted
+mod AccountedDones
+mod AccountedEvents
+mod AccountedForm
+mod AccountedGrown
+mod AccountedJournal
+mod AccountedLands
+mod AccountedPlans
+mod AccountedQuiet
+mod AccountedScanned
+mod AccountedTaken
+mod AccountedWatched
+mod AccountedWeb
+mod AccountedWishes
+mod Counted
 mod Dones
 mod Entered
+mod Keeping
 mod Kept
 mod Later
 mod Marked
+mod Members
 mod Mended
 mod Observed
 mod Plans
 mod Quiet
 mod Ran
+mod Refused
 mod Scanned
+mod Seen
 mod TakeTurns
 mod Takes
 mod Watched
 mod Web
 mod Wished
+mod Worlds
 pub mod Beside
 pub mod Folders
 pub mod Grown

@@ -4,7 +4,7 @@ use Rattle.std.specs.Prelude.{IsSomeAnd}
 use Rattle.nuc_base.specs.declared.node.Kind.{Kind}
 use Rattle.nuc_step.specs.Client.{ClientState}
 use Rattle.nuc_step.specs.Held.{HeldData, HeldState}
-use Rattle.nuc_step.specs.Scanning.{IsScanned, ScanAnswers}
+use Rattle.nuc_step.specs.Scanning.{IsScanned}
 use Rattle.nuc_step.specs.Watching.{Watching}
 use Rattle.nuc_step.specs.declared.answers.Scanned.{Scanned}
 use Rattle.nuc_step.specs.declared.answers.Scanned.TheVariants as scan

@@ -41,8 +41,15 @@ pub record FolderKeeps (a b : MemStates) : Type 0 where
   pub failing : b.calls.failing ≡ a.calls.failing
 
 -- a turn of these parts
+abbrev pub turn_at : WebState → MemberState → Turn
+turn_at s m = record { shared = s; member = m }
+
 abbrev pub turn_with : WebState → ClientStates → MemStates → Turn
 turn_with s client folder = record { shared = s; member = member_now client folder }
 
 abbrev pub turn_of : Shared → ClientStates → MemStates → Turn
 turn_of shared client folder = turn_with (shared_now shared) client folder
+
+-- what taking both back leads to
+abbrev pub turn_then : Shared → ClientStates → MemStates → Turn
+turn_then shared client folder = record { shared = shared_then shared; member = member_then client folder }

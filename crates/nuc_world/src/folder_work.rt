@@ -12,7 +12,6 @@ ghost use Rattle.nuc_world.specs.Parts.{FolderKeeps, folder_view, member_now, me
 ghost use Rattle.nuc_world.specs.Takes as spec;
 
 use crate::committing::{content_in, tell};
-use crate::member::Member;
 use crate::shared::Shared;
 use nuc_base::{Change, Kind, Node, TreeLike};
 use nuc_blocks::AssembleFault;
@@ -21,7 +20,7 @@ use nuc_filework::run_op;
 use nuc_flights::Taken;
 use nuc_folder::{MemFolder, Outcome, RanOp};
 use nuc_hash::{Content, content_of};
-use nuc_log::TakeReply;
+use nuc_log::{Member, TakeReply};
 use nuc_observe::Keys;
 use nuc_transfer::download;
 use sqlite_items::Items;

@@ -1,15 +1,26 @@
 //! The world: a server, and clients with their folders, that take one step after the other.
 #![tactic(auto)]
 
+mod book;
 mod committing;
 mod folder_work;
 mod laws;
 mod member;
+mod nothing_lost;
 mod observing;
 mod reading;
 mod shared;
 mod starting;
+mod stepping;
+mod stop;
 mod syncing;
 mod taking;
+#[cfg(test)]
+mod tests;
+mod turn;
+mod world;
 
 pub use laws::each_step_keeps_a_world;
+pub use nothing_lost::nothing_recorded_is_lost;
+pub use stop::{MOST_UNITS, Stop};
+pub use world::World;

@@ -1,4 +1,4 @@
-ghost use Rattle.std.specs.Prelude.{◌≡◌, [], OnOk};
+ghost use Rattle.std.specs.Prelude.{◌≡◌, [], IfOk, OnOk, map, replicate};
 ghost use Rattle.nuc_class.specs.declared.op.Op.{Op};
 ghost use Rattle.nuc_flights.specs.Flights.{IsPlanned, StandsAt};
 ghost use Rattle.nuc_flights.specs.declared.taken.Taken.TheVariants as came;
@@ -10,34 +10,57 @@ ghost use Rattle.nuc_world.specs.State.{fresh_member};
 use nuc_base::TreeLike;
 use nuc_flights::Taken;
 use nuc_folder::{MemFolder, Outcome};
+use nuc_log::Member;
+use nuc_lookup::UndoLookup;
+use nuc_observe::Keys;
+use nuc_replica::{Local, Remote};
 use nuc_step::Client;
 use std::alloc::{AllocError, Global};
 
-/// A client with its folder.
-#[derive(Drop)]
-pub(crate) struct Member<T: TreeLike> {
-    pub(crate) client: Client<T>,
-    pub(crate) folder: MemFolder,
+/// A client without anything in it, with an empty folder.
+fn new_member<T: TreeLike + Drop>(alloc: Global) -> Result<Member<T>, AllocError>
+    ensures now { IfOk result (λ m. member_now m.client m.folder ≡ fresh_member) }
+    ensures settled { IfOk result (λ m. member_then m.client m.folder ≡ fresh_member) }
+{
+    let remote = Remote::of(alloc, T::empty(alloc)?, UndoLookup::new(alloc), 0);
+    let local = Local::of(alloc, T::empty(alloc)?, Keys::new(alloc));
+    Ok(Member {
+        client: Client::of(alloc, remote, local, T::empty(alloc)?, 0, 1),
+        folder: MemFolder::new(alloc),
+    })
 }
 
-impl<T: TreeLike + Drop> Member<T> {
-    /// What there is now is what `back` leads to. It takes no memory.
-    pub(crate) fn settle(&mut self)
-        ensures now { member_now self.new.client self.new.folder ≡ member_now self.old.client self.old.folder }
-        ensures settled { member_then self.new.client self.new.folder ≡ member_now self.old.client self.old.folder }
-    {
-        self.client.settle();
-        self.folder.settle();
+/// So many members without anything in them.
+pub(crate) fn new_members<T: TreeLike + Drop>(
+    alloc: Global,
+    count: u32,
+) -> Result<Vec<Member<T>>, AllocError>
+    ensures now { IfOk result (λ members. map (λ m. member_now m.client m.folder) members.items ≡ replicate count fresh_member) }
+    ensures settled { IfOk result (λ members. map (λ m. member_then m.client m.folder) members.items ≡ replicate count fresh_member) }
+{
+    let mut members = Vec::with_capacity(alloc, count as usize)?;
+    for _ in 0..count {
+        members.push(new_member(alloc)?)?;
     }
+    Ok(members)
+}
 
-    /// What there was at the last `settle` is there again; which calls of the folder fail stays. It takes no memory.
-    pub(crate) fn back(&mut self)
-        ensures now { member_now self.new.client self.new.folder ≡ member_then self.old.client self.old.folder }
-        ensures settled { member_then self.new.client self.new.folder ≡ member_then self.old.client self.old.folder }
-    {
-        self.client.back();
-        self.folder.back();
-    }
+/// What there is now is what `back` leads to. It takes no memory.
+pub(crate) fn settle<T: TreeLike + Drop>(member: &mut Member<T>)
+    ensures now { member_now member.new.client member.new.folder ≡ member_now member.old.client member.old.folder }
+    ensures settled { member_then member.new.client member.new.folder ≡ member_now member.old.client member.old.folder }
+{
+    member.client.settle();
+    member.folder.settle();
+}
+
+/// What there was at the last `settle` is there again; which calls of the folder fail stays. It takes no memory.
+pub(crate) fn back<T: TreeLike + Drop>(member: &mut Member<T>)
+    ensures now { member_now member.new.client member.new.folder ≡ member_then member.old.client member.old.folder }
+    ensures settled { member_then member.new.client member.new.folder ≡ member_then member.old.client member.old.folder }
+{
+    member.client.back();
+    member.folder.back();
 }
 
 /// An operation begins that is known to be planned.

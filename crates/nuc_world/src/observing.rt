@@ -7,10 +7,10 @@ ghost use Rattle.nuc_world.specs.Step as spec;
 ghost use Rattle.nuc_world.specs.Unlisted.{Unlists};
 ghost use Rattle.nuc_world.specs.Watched.{WatchesOldest};
 
-use crate::member::Member;
 use crate::shared::Shared;
 use nuc_base::TreeLike;
 use nuc_folder::{Folder, Item, Listed, MemFolder, UserEdit, UserReply};
+use nuc_log::Member;
 use nuc_step::{ListReply, Scanned, WatchReply};
 use sqlite_items::Items;
 use std::alloc::{AllocError, Global};

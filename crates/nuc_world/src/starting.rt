@@ -4,11 +4,11 @@ ghost use Rattle.nuc_flights.specs.Flights.{IsPlanned, StandsAt};
 ghost use Rattle.nuc_world.specs.Parts.{member_now, member_then};
 ghost use Rattle.nuc_world.specs.Starts as spec;
 
-use crate::member::{Member, begin, end};
+use crate::member::{begin, end};
 use nuc_base::{Change, Kind, Node, TreeLike, Ver};
 use nuc_class::{Op, Verb};
 use nuc_folder::{Folder, Key, Outcome, ReadBack};
-use nuc_log::StartReply;
+use nuc_log::{Member, StartReply};
 use std::alloc::{AllocError, Global};
 
 /// An operation begins. An upload reads its file; where that isn't there or can't be read, the operation is taken so.

@@ -6,10 +6,9 @@ ghost use Rattle.nuc_world.specs.Marks as mark;
 ghost use Rattle.nuc_world.specs.Parts.{member_then, shared_then, turn_of, turn_with};
 ghost use Rattle.nuc_world.specs.Step as spec;
 
-use crate::member::Member;
 use crate::shared::Shared;
 use nuc_base::TreeLike;
-use nuc_log::MarkReply;
+use nuc_log::{MarkReply, Member};
 use nuc_measure::differing;
 use nuc_step::{Client, DoneReply, Planned};
 use std::alloc::{AllocError, Global};

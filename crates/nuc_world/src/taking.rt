@@ -5,12 +5,11 @@ ghost use Rattle.nuc_world.specs.Takes as spec;
 
 use crate::committing::make_commit;
 use crate::folder_work::carry_out;
-use crate::member::Member;
 use crate::shared::Shared;
 use crate::starting::is_upload;
 use nuc_base::{Change, Node, TreeLike};
 use nuc_class::{Effect, Op};
-use nuc_log::{Log, TakeReply};
+use nuc_log::{Log, Member, TakeReply};
 use nuc_server::Commit;
 use std::alloc::{AllocError, Global};
 
