@@ -1,0 +1,7 @@
+mod Asking
+mod Carrying
+mod Whole
+pub mod Growing
+pub mod Known
+pub mod Members
+pub mod Running
