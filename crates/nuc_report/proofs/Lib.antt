@@ -1,2 +1,4 @@
 mod Lines
+mod SeenClients
+mod Statuses
 mod Walk

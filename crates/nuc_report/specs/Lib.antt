@@ -1,7 +1,8 @@
 pub mod Line
-pub mod Words
-pub mod Web
-pub mod Done
+pub mod Reasons
+pub mod Answers
 pub mod Entry
 pub mod Report
+pub mod Seen
+pub mod Usage
 pub mod Output

@@ -1,21 +1,21 @@
-use Rattle.std.specs.Prelude.{ℕ, List, [], ◌∷◌, ◌++◌, Bool, true, false, codes}
-use Rattle.std.specs.Fmt.{decimal}
+-- What a report prints, by its parts.
+use Rattle.std.specs.Prelude.{ℕ, List, [], ◌∷◌, ◌++◌, Bool, true, false, codes, decimal}
+use Rattle.std.specs.FinMap.{get, keys}
 use Rattle.std.specs.List.{flat_map}
 use Rattle.std.specs.Option.{option_map_or}
-use Rattle.std.specs.FinMap.{get, keys}
 use Rattle.hex.specs.Hex.{encode_lower}
 use Rattle.nuc_base.specs.Trees.{Nodes}
 use Rattle.nuc_base.specs.declared.node.Kind.{Kind}
 use Rattle.nuc_base.specs.declared.node.Kind.TheVariants.{Folder, File}
 use Rattle.nuc_base.specs.declared.node.Node.{Node}
+use Rattle.nuc_edits.specs.declared.edit.Adoption.{Adoption}
 use Rattle.nuc_edits.specs.declared.edit.Edit.{Edit}
 use Rattle.nuc_edits.specs.declared.edit.EditKind.{EditKind}
 use Rattle.nuc_edits.specs.declared.edit.EditKind.TheVariants.{Put, Deleted}
 use Rattle.nuc_folder.specs.declared.item.Item.{Item}
-use Rattle.nuc_step.specs.declared.view.ClientView.{ClientView}
-use Rattle.nuc_step.specs.declared.view.View.{View}
-use Rattle.nuc_report.specs.Line.{line, escaped}
 use Rattle.nuc_report.specs.Entry.{item_line}
+use Rattle.nuc_report.specs.Line.{line}
+use Rattle.nuc_script.specs.Text.{escaped}
 
 -- what a report shows of a client: its trees, and the listing of its folder
 pub record ClientSeen : Type 0 where
@@ -27,32 +27,13 @@ pub record ClientSeen : Type 0 where
   pub synced : Nodes
   pub folder : List Item
 
--- what a report shows: the server's last revision and its tree, the edits, and the client
+-- what a report shows: the server's last revision and its tree, the clients, the edits and the adoptions
 pub record Seen : Type 0 where
   pub revision : ℕ
   pub server : Nodes
+  pub clients : List ClientSeen
   pub edits : List Edit
-  pub client : ClientSeen
-
--- what a view lends
-abbrev pub client_seen : {T : Type 0} → (T → Nodes) → ClientView T → ClientSeen
-client_seen nodes client = record {
-  number = client.number;
-  cursor = client.cursor;
-  changes = client.changes;
-  remote = nodes client.remote.now;
-  local = nodes client.local.now;
-  synced = nodes client.synced.now;
-  folder = client.folder.now;
-}
-
-abbrev pub seen_of : {T : Type 0} → (T → Nodes) → View T → Seen
-seen_of nodes view = record {
-  revision = view.revision;
-  server = nodes view.server.now;
-  edits = view.edits.now.now.edits;
-  client = client_seen nodes view.client;
-}
+  pub adoptions : List Adoption
 
 -- a file with the bit is a program
 abbrev pub kind_word : Kind → Bool → List ℕ
@@ -80,8 +61,8 @@ change_words Deleted = codes "deleted" ∷ []
 abbrev pub edit_line : Edit → List ℕ
 edit_line edit = line (codes "edit" ∷ decimal edit.ver.0 ∷ decimal edit.id.0 ∷ decimal edit.base.0 ∷ change_words edit.what)
 
-abbrev pub server_text : Seen → List ℕ
-server_text seen = line (codes "server" ∷ decimal seen.revision ∷ []) ++ tree_text seen.server
+abbrev pub adoption_line : Adoption → List ℕ
+adoption_line adoption = line (codes "adopt" ∷ decimal adoption.old.0 ∷ decimal adoption.into.0 ∷ [])
 
 abbrev pub client_text : ClientSeen → List ℕ
 client_text client =
@@ -92,4 +73,9 @@ client_text client =
     ++ line (codes "folder" ∷ []) ++ flat_map item_line client.folder
 
 abbrev pub report_text : Seen → List ℕ
-report_text seen = line (codes "report" ∷ []) ++ server_text seen ++ client_text seen.client ++ flat_map edit_line seen.edits
+report_text seen =
+    (line (codes "report" ∷ []) ++ line (codes "server" ∷ decimal seen.revision ∷ []))
+    ++ tree_text seen.server
+    ++ flat_map client_text seen.clients
+    ++ flat_map edit_line seen.edits
+    ++ flat_map adoption_line seen.adoptions

@@ -1,9 +1,5 @@
-ghost use Rattle.std.specs.Prelude.{◌≡◌, IfOk};
-ghost use Rattle.std.specs.String.{string_bytes};
-
-use nuc_base::LineFault;
-use nuc_step::Log;
-use std::alloc::{AllocError, Global};
+use nuc_log::Log;
+use nuc_script::LineFault;
 
 /// How a run ended.
 #[derive(Clone, Copy, Debug, PartialEq, Eq)]
@@ -17,7 +13,15 @@ pub enum Status {
     ReadFault,
     /// The output couldn't be written to its end.
     WriteFault,
+    /// A client was synced, and there is something left to be done.
+    Stalled,
+    /// The log has no room for another step.
+    LogFull,
     Memory,
+    /// A client's folder failed where it was to be listed.
+    FolderFault,
+    /// A client's folder has more items than a listing.
+    ListingTooLong,
 }
 
 /// What is left of a run.
@@ -30,7 +34,8 @@ pub struct Ended {
 }
 
 impl Status {
-    ghost use Rattle.nuc_report.specs.Output.{status_number};
+    ghost use Rattle.std.specs.Prelude.{◌≡◌, MatchBool};
+    ghost use Rattle.nuc_report.specs.Output.{PrintsLog, status_number};
 
     /// The number that a process ends with.
     pub fn number(&self) -> u8
@@ -42,7 +47,29 @@ impl Status {
             Status::ScriptFault { .. } => 2,
             Status::ReadFault => 3,
             Status::WriteFault => 4,
+            Status::Stalled => 6,
+            Status::LogFull => 8,
             Status::Memory => 9,
+            Status::FolderFault => 10,
+            Status::ListingTooLong => 11,
+        }
+    }
+
+    /// Whether a run that ended so prints its log and the report.
+    pub fn prints_log(&self) -> bool
+        ensures { MatchBool result (PrintsLog self.now) (¬ (PrintsLog self.now)) }
+    {
+        match self {
+            Status::Ok
+            | Status::Stalled
+            | Status::LogFull
+            | Status::FolderFault
+            | Status::ListingTooLong => true,
+            Status::Usage
+            | Status::ScriptFault { .. }
+            | Status::ReadFault
+            | Status::WriteFault
+            | Status::Memory => false,
         }
     }
 }

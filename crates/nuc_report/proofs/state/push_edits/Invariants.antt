@@ -1,8 +1,0 @@
-use Rattle.std.proofs.Common.{◌≡◌, ◌++◌, take}
-use Rattle.std.specs.String.{string_bytes}
-use Rattle.std.specs.List.{flat_map}
-use Rattle.nuc_report.specs.Report.{edit_line}
-use Rattle.nuc_report.proofs.state.push_edits.Given as goal
-
-abbrev pub invariant-loop-i : goal.invariant-loop-i
-invariant-loop-i l = string_bytes l.text ≡ string_bytes l.initial.text ++ flat_map edit_line (take l.i l.edits.now.edits)

@@ -1,8 +1,0 @@
-use Rattle.std.proofs.Common.{◌≡◌, ◌∷◌, take}
-use Rattle.std.specs.String.{string_bytes}
-use Rattle.std.specs.List.{flat_map}
-use Rattle.nuc_report.specs.Line.{escaped}
-use Rattle.nuc_report.proofs.words.path_word.Given as goal
-
-abbrev pub invariant-loop-name : goal.invariant-loop-name
-invariant-loop-name l = string_bytes l.word ≡ flat_map (λ name. 47 ∷ escaped name) (take l.name-index l.name-items)

@@ -1,0 +1,36 @@
+-- What is printed to who calls the program with other words: each line of a script, in a few words.
+use Rattle.std.specs.Prelude.{ℕ, List, [], ◌∷◌, ◌++◌, codes}
+use Rattle.nuc_report.specs.Line.{line}
+
+abbrev pub usage_text : List ℕ
+usage_text =
+    line (codes "usage: nucleus run < SCRIPT" ∷ [])
+    ++ line (codes "Runs the script, one line after another, and prints each step and then what the server, the clients and their folders hold." ∷ [])
+    ++ line (codes "C is a client's number, from 1, N the number of an operation. PATH is /NAME or /NAME/NAME and so on." ∷ [])
+    ++ line (codes "CONTENT is =BYTES, or *COUNT:HH for a byte that is repeated. A line that begins with # does nothing." ∷ [])
+    ++ line (codes "  clients N             there are so many clients, 1 to 16; only as the first line, and without it there is one" ∷ [])
+    ++ line (codes "What the user of a client does in its folder:" ∷ [])
+    ++ line (codes "  mkdir C PATH          makes a folder" ∷ [])
+    ++ line (codes "  write C PATH CONTENT  makes a file, or replaces its bytes" ∷ [])
+    ++ line (codes "  move C PATH PATH      moves what is at the first path to the second" ∷ [])
+    ++ line (codes "  remove C PATH         removes a file, or a folder with all that is in it" ∷ [])
+    ++ line (codes "  bit C PATH on|off     says whether a file may be executed" ∷ [])
+    ++ line (codes "What is done at the server, on the web:" ∷ [])
+    ++ line (codes "  web mkdir PATH          makes a folder" ∷ [])
+    ++ line (codes "  web write PATH CONTENT  makes a file, or replaces its bytes" ∷ [])
+    ++ line (codes "  web move PATH PATH      moves what is at the first path to the second" ∷ [])
+    ++ line (codes "  web remove PATH         removes a file, or a folder with nothing in it" ∷ [])
+    ++ line (codes "  web bit PATH on|off     says whether a file may be executed" ∷ [])
+    ++ line (codes "What a client does:" ∷ [])
+    ++ line (codes "  sync C            syncs until nothing is left to be done" ∷ [])
+    ++ line (codes "  sync C reverse    the same, with the operations of each batch from the last to the first" ∷ [])
+    ++ line (codes "  list C            lists its folder" ∷ [])
+    ++ line (codes "  scan C            takes the listing in" ∷ [])
+    ++ line (codes "  watch C           takes in one change that its user made" ∷ [])
+    ++ line (codes "  pull C            asks the server for what is new" ∷ [])
+    ++ line (codes "  plan C            plans what is to be done next" ∷ [])
+    ++ line (codes "  start C N         starts a planned operation" ∷ [])
+    ++ line (codes "  take C N          carries out an operation that was started" ∷ [])
+    ++ line (codes "  done C N          notes how an operation ended that was carried out" ∷ [])
+    ++ line (codes "  restart C         forgets what it has under way" ∷ [])
+    ++ line (codes "  fail C K          from now on, the K-th call on its folder fails" ∷ [])
