@@ -1,25 +1,7 @@
-pub mod RunLemmas
-pub mod PlanLemmas
-pub mod LegalLemmas
-pub mod ListLemmas
-pub mod UploadLemmas
-pub mod BatchLemmas
-pub mod ScanLemmas
-pub mod GoodLemmas
-pub mod OutcomeLemmas
-pub mod CommitLemmas
-pub mod UploadAnswers
-pub mod BatchRun
-pub mod SyncLemmas
-pub mod OneStep
-pub mod OneOutcome
-pub mod Ordered
-pub mod Kept
-pub mod KeptScan
-pub mod KeptServer
-pub mod KeptSteps
-pub mod WebLemmas
-pub mod PullLemmas
-pub mod Behind
-pub mod KeptLogs
-pub mod RunOutput
+mod Ended
+mod Fitted
+mod Marks
+mod Printed
+mod Scripted
+mod Words
+mod Viewed

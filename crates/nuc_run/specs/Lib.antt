@@ -1,11 +1,5 @@
-pub mod State
-pub mod Scan
-pub mod Plan
-pub mod Step
-pub mod Tasks
-pub mod Runs
-pub mod Good
-pub mod Calm
-pub mod World
 pub mod Outcome
+pub mod Scripts
 pub mod Sound
+pub mod Stalled
+pub mod Statuses

@@ -1,14 +1,10 @@
-//! The top call: it reads a script, runs it in memory and writes the log and the report.
+//! The top call: a script over a world in memory, from its bytes to what is printed.
 #![tactic(auto)]
 
-mod client;
-mod plan;
-mod pull;
+mod commands;
 mod run;
-mod scan;
+mod stalled;
 #[cfg(test)]
 mod tests;
-mod web;
-mod world;
 
-pub use run::{has_one_outcome, run_script, runs_every_script};
+pub use run::run_script;

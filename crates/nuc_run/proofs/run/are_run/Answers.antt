@@ -2,7 +2,7 @@ use Rattle.std.proofs.Common.{◌≡◌, codes}
 use Rattle.std.proofs.lemmas.Bool.Decides.{Decides-eqb}
 use Rattle.std.proofs.lemmas.Slice.Eq.{slice_eq-Decides}
 use Rattle.nuc_base.proofs.Answered.{cases_of_decides}
-use Rattle.nuc_run.proofs.OutcomeLemmas.{is_the_word, not_the_word, one_word}
+use Rattle.nuc_run.proofs.Words.{is_the_word, not_the_word, one_word}
 use Rattle.nuc_run.proofs.run.are_run.Goals as goal
 
 pub returns-in-len1 : goal.returns-in-len1

@@ -1,20 +1,26 @@
-use Rattle.nuc_run.specs.World.{at_rest}
-use Rattle.nuc_run.proofs.GoodLemmas.{went_badly, went_well}
-use Rattle.nuc_run.proofs.RunOutput.{early_output}
+use Rattle.std.specs.Prelude.{IfErr, OnOk}
+use Rattle.std.proofs.Common.{◌≡◌, ◌≢◌, ◌∙◌, ℕ, List, [], ap, subst, sym}
+use Rattle.nuc_log.specs.declared.log.LogEntry.{LogEntry}
+use Rattle.nuc_script.specs.Commands.{clients_of}
+use Rattle.nuc_sync.specs.Runs.{Breaks, Runs}
+use Rattle.nuc_world.specs.World.{WorldData, opened}
+use Rattle.nuc_world.specs.declared.stop.Stop.{Stop}
+use Rattle.nuc_world.specs.declared.stop.Stop.TheVariants as stop
+use Rattle.nuc_run.specs.Scripts.{script_tasks}
+use Rattle.nuc_run.specs.Statuses.{IsStatusOf}
+use Rattle.nuc_run.proofs.Ended.{ran_commands}
 use Rattle.nuc_run.proofs.run.run.Goals as goal
 
-pub returns-then-is_err-clause-output : goal.returns-then-is_err-clause-output
-returns-then-is_err-clause-output g c = early_output _ _ _ (went_badly _ c.if-is_err.ensures.value c.run_commands.ensures.early)
-
-pub returns-then-is_err-clause-early : goal.returns-then-is_err-clause-early
-returns-then-is_err-clause-early g c = λ _. went_badly _ c.if-is_err.ensures.value c.run_commands.ensures.early
-
-pub returns-clause-whole : goal.returns-clause-whole
-returns-clause-whole g c = λ _. went_well _ c.if-is_err.ensures.value c.run_commands.ensures.whole
-
-pub returns-clause-output : goal.returns-clause-output
-returns-clause-output g c = record {
-  end = at_rest c.run_commands.new.world;
-  reached = went_well _ c.if-is_err.ensures.value c.run_commands.ensures.world;
-  written = c.report.ensures.output;
-}
+pub returns-clause-before : goal.returns-clause-before
+returns-clause-before g c =
+    let cs = c.args.commands.now in
+    let end = c.run_commands-ran.new.world in
+    let ran = c.run_commands-ran.result in
+    let b = c.status_of-before.result in
+    let from = c.in-Ok.ensures ∙ ap opened c.clients_of-clients.ensures in
+    let runs = subst (λ (w : WorldData). OnOk ran (Runs w (script_tasks cs) end [])) from c.run_commands-ran.ensures.ok in
+    let cut = subst (λ (w : WorldData). IfErr ran (λ (why : Stop). Breaks w (script_tasks cs) why end × (why ≢ stop.NoClient))) from c.run_commands-ran.ensures.err in
+    let log = c.log.ensures.log ∙ sym c.into_log.ensures.log in
+    let is = subst (λ (n : ℕ). IsStatusOf n c.log.result.now ran b) c.clients_of-clients.ensures c.status_of-before.ensures in
+    let judged = subst (λ (es : List LogEntry). IsStatusOf (clients_of cs) es ran b) log is in
+    ran_commands cs end c.into_log.result c.into_log.ensures.log ran b runs cut judged

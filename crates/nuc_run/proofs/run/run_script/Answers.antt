@@ -1,33 +1,37 @@
-use Rattle.std.proofs.Common.{ap, rules}
-use Rattle.nuc_report.specs.Output.{output_of}
-use Rattle.nuc_run.specs.Outcome.{seen_in}
-use Rattle.nuc_run.specs.State.{fresh}
-use Rattle.nuc_run.proofs.RunOutput.{idle_output}
-use Rattle.nuc_run.proofs.KeptLogs.{exact_throughout, sound_throughout}
+use Rattle.std.proofs.Common.{[], sym, subst}
+use Rattle.nuc_script.specs.Fitting.{FitBehind}
+use Rattle.nuc_script.specs.Taking.{ReadsScript}
+use Rattle.nuc_script.specs.declared.script_read.ScriptRead.TheVariants as read
+use Rattle.nuc_script.proofs.CommandsFit.{every_script_fits}
+use Rattle.nuc_world.proofs.Accounted.{nothing_is_lost}
+use Rattle.nuc_world.proofs.Reached.{reached_world}
+use Rattle.nuc_run.proofs.Ended.{ran_script, was_read}
 use Rattle.nuc_run.proofs.run.run_script.Goals as goal
 
+pub returns-then-not-are_run-clause-sound : goal.returns-then-not-are_run-clause-sound
+returns-then-not-are_run-clause-sound g c = λ es rest w whole reached. record { world = reached_world es w reached; accounted = nothing_is_lost es w reached }
+
+pub run-requires : goal.run-requires
+run-requires g c =
+    let script = c.in-Commands.ensures.script in
+    subst (FitBehind []) (sym c.as_slice.ensures) ((every_script_fits script.0 c.in-Commands.commands script.3).0)
+
+pub returns-in-Commands-clause-script : goal.returns-in-Commands-clause-script
+returns-in-Commands-clause-script g c =
+    let left = g.S.Source.left c.args.input.now in
+    let rest = g.S.Source.left c.read_script.new.src in
+    let cs = c.as_slice.result.now in
+    let script = subst (λ cs. ReadsScript left (read.Commands cs) rest) (sym c.as_slice.ensures) c.in-Commands.ensures.script in
+    ran_script left rest cs c.run.result.before c.run.result.log (was_read left rest cs script) c.run.ensures.before
+
 pub returns-in-Commands-clause-sound : goal.returns-in-Commands-clause-sound
-returns-in-Commands-clause-sound g c = sound_throughout _ _ _ (search rules) c.run.ensures.before c.run.ensures.whole c.run.ensures.early
+returns-in-Commands-clause-sound g c = λ es rest w whole reached. record { world = reached_world es w reached; accounted = nothing_is_lost es w reached }
 
-pub returns-in-Commands-clause-plans : goal.returns-in-Commands-clause-plans
-returns-in-Commands-clause-plans g c = exact_throughout _ _ _ (search rules) c.run.ensures.before c.run.ensures.whole c.run.ensures.early
+pub returns-in-Fault-clause-sound : goal.returns-in-Fault-clause-sound
+returns-in-Fault-clause-sound g c = λ es rest w whole reached. record { world = reached_world es w reached; accounted = nothing_is_lost es w reached }
 
-pub returns-then-not-are_run-clause-output : goal.returns-then-not-are_run-clause-output
-returns-then-not-are_run-clause-output g c =
-    idle_output _ _ c.refuse.result.before c.refuse.result.status c.refuse.result.log.entries _ c.refuse.ensures.log
-    (ap (λ b. output_of b c.refuse.result.log.entries (seen_in fresh)) c.refuse.ensures.before) c.refuse.ensures.output
+pub returns-in-ReadFault-clause-sound : goal.returns-in-ReadFault-clause-sound
+returns-in-ReadFault-clause-sound g c = λ es rest w whole reached. record { world = reached_world es w reached; accounted = nothing_is_lost es w reached }
 
-pub returns-in-Fault-clause-output : goal.returns-in-Fault-clause-output
-returns-in-Fault-clause-output g c =
-    idle_output _ _ c.refuse-in-Fault.result.before c.refuse-in-Fault.result.status c.refuse-in-Fault.result.log.entries _ c.refuse-in-Fault.ensures.log
-    (ap (λ b. output_of b c.refuse-in-Fault.result.log.entries (seen_in fresh)) c.refuse-in-Fault.ensures.before) c.refuse-in-Fault.ensures.output
-
-pub returns-in-ReadFault-clause-output : goal.returns-in-ReadFault-clause-output
-returns-in-ReadFault-clause-output g c =
-    idle_output _ _ c.refuse-in-ReadFault.result.before c.refuse-in-ReadFault.result.status c.refuse-in-ReadFault.result.log.entries _ c.refuse-in-ReadFault.ensures.log
-    (ap (λ b. output_of b c.refuse-in-ReadFault.result.log.entries (seen_in fresh)) c.refuse-in-ReadFault.ensures.before) c.refuse-in-ReadFault.ensures.output
-
-pub returns-in-Memory-clause-output : goal.returns-in-Memory-clause-output
-returns-in-Memory-clause-output g c =
-    idle_output _ _ c.refuse-in-Memory.result.before c.refuse-in-Memory.result.status c.refuse-in-Memory.result.log.entries _ c.refuse-in-Memory.ensures.log
-    (ap (λ b. output_of b c.refuse-in-Memory.result.log.entries (seen_in fresh)) c.refuse-in-Memory.ensures.before) c.refuse-in-Memory.ensures.output
+pub returns-in-Memory-clause-sound : goal.returns-in-Memory-clause-sound
+returns-in-Memory-clause-sound g c = λ es rest w whole reached. record { world = reached_world es w reached; accounted = nothing_is_lost es w reached }

@@ -1,7 +1,0 @@
-use Rattle.nuc_plain_script.proofs.Lines.{judged}
-use Rattle.nuc_plain_script.proofs.read.next_command.Goals as goal
-
-pub returns-in-Whole-clause-next : goal.returns-in-Whole-clause-next
-returns-in-Whole-clause-next g c =
-    let (unspent, spent, whole, took) = c.in-Whole.ensures.line in
-    judged _ _ _ _ _ whole took c.judge.ensures
