@@ -47,6 +47,7 @@ impl Log {
         Ok(())
     }
 
+    /// The entries, the oldest first.
     pub fn entries(&self) -> &[LogEntry]
         ensures { result.now ≡ self.now }
     {

@@ -24,6 +24,7 @@ pub enum Reply {
     Marked(MarkReply),
 }
 
+/// What came of the start of an operation.
 #[derive(Debug, Drop)]
 pub enum StartReply {
     /// The operation has begun; an upload with the bytes that it read.
@@ -36,6 +37,7 @@ pub enum StartReply {
     NoSuchOp,
 }
 
+/// What came of the outside change of an operation.
 #[derive(Clone, Copy, Debug, PartialEq, Eq)]
 pub enum TakeReply {
     /// What came of the folder's calls. A commit whose file changed since it was recorded is answered `Changed` too.
@@ -47,6 +49,7 @@ pub enum TakeReply {
     NoSuchOp,
 }
 
+/// How far a client was where its sync ended.
 #[derive(Clone, Copy, Debug, PartialEq, Eq)]
 pub enum MarkReply {
     /// Nothing is in flight, and the three trees are equal.

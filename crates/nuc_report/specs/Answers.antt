@@ -60,7 +60,7 @@ watch_words watch.Rescan = codes "rescan" ∷ []
 abbrev pub plan_words : Planned → List (List ℕ)
 plan_words plan.Empty = codes "empty" ∷ []
 plan_words (plan.Booked op) = codes "record" ∷ []
-plan_words (plan.Batch ops) = codes "batch" ∷ decimal (length ops.items) ∷ []
+plan_words (plan.Batch ops) = codes "batch" ∷ decimal (length ops) ∷ []
 plan_words (plan.Mend op) = codes "mend" ∷ []
 plan_words (plan.Busy count) = codes "busy" ∷ decimal count ∷ []
 

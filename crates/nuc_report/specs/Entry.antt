@@ -75,7 +75,7 @@ event_words (event.Mark client) = codes "sync" ∷ decimal client ∷ []
 abbrev pub reply_lines : Reply → List ℕ
 reply_lines (reply.Listed changes items) = flat_map item_line items
 reply_lines (reply.Plan (plan.Booked op)) = op_line op
-reply_lines (reply.Plan (plan.Batch ops)) = flat_map op_line ops.items
+reply_lines (reply.Plan (plan.Batch ops)) = flat_map op_line ops
 reply_lines (reply.Plan (plan.Mend op)) = op_line op
 reply_lines _ = []
 

@@ -18,7 +18,7 @@ use Rattle.nuc_step.specs.declared.answers.Planned.TheVariants as plan
 
 -- how many operations an entry's batch has
 abbrev pub batched : LogEntry → ℕ
-batched (Stepped event (reply.Plan (plan.Batch ops))) = length ops.items
+batched (Stepped event (reply.Plan (plan.Batch ops))) = length ops
 batched _ = 0
 
 -- 1 for a plan that was a record step

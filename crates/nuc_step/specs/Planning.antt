@@ -124,7 +124,7 @@ pub record IsMended (p : Planning) (shown : Op) (q : Planning) : Type 0 where
 abbrev pub PlanAnswers : Planning → Planned → Planning → Type 0
 PlanAnswers p answer.Empty q = IsPlanOf p plan.Empty × (q ≡ p)
 PlanAnswers p (answer.Booked shown) q = IsBooked p shown q
-PlanAnswers p (answer.Batch shown) q = IsLaunched p shown.items q
+PlanAnswers p (answer.Batch shown) q = IsLaunched p shown q
 PlanAnswers p (answer.Mend shown) q = IsMended p shown q
 PlanAnswers p (answer.Busy k) q = (0 < k) × (k ≡ length p.client.flights) × (q ≡ p)
 

@@ -1,5 +1,6 @@
 use nuc_base::NodeId;
 use nuc_class::Op;
+use sqlite_items::Items;
 use thiserror::Error;
 
 /// How a client answers operations that are to fly.
@@ -34,7 +35,7 @@ pub enum Planned {
     /// A record step, which has taken place.
     Booked(Op),
     /// Operations that are in flight now, and may be carried out in any order.
-    Batch(Vec<Op>),
+    Batch(Items<Op>),
     /// What clears the way for others. It is in flight, or has taken place where it has no effect.
     Mend(Op),
     /// So many operations are in flight still.

@@ -15,6 +15,7 @@ use nuc_class::{Effect, Op, Verb};
 use nuc_edits::Edits;
 use nuc_folder::Outcome;
 use nuc_plan::{Plan, plan};
+use sqlite_items::Items;
 use std::alloc::{AllocError, Global};
 
 impl<T: TreeLike> Client<T> {
@@ -44,7 +45,10 @@ impl<T: TreeLike> Client<T> {
         match self.due(alloc, ids.next_id, edits)? {
             Plan::Empty => Ok(Planned::Empty),
             Plan::Booked(op) => Ok(Planned::Booked(self.note(alloc, op, edits)?)),
-            Plan::Batch(ops) => Ok(Planned::Batch(self.launch_batch(alloc, ops.as_slice())?)),
+            Plan::Batch(ops) => {
+                let shown = self.launch_batch(alloc, ops.as_slice())?;
+                Ok(Planned::Batch(Items::from_vec(shown)))
+            }
             Plan::Mend(op) => Ok(Planned::Mend(self.mend(alloc, ids, op, edits)?)),
         }
     }

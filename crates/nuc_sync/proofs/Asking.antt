@@ -60,6 +60,6 @@ module _ (client : ℕ) (backwards : Bool) where
 
   pub plan_asks : (r : Reply) (a : Asked) → Asks backwards (Some r) a → more (plans client backwards) r ≡ asked_tasks client backwards a
   plan_asks (reply.Plan (plan.Booked op)) a is = ap (asked_tasks client backwards) (sym is)
-  plan_asks (reply.Plan (plan.Batch ops)) a is = numbers_ask a (in_order backwards ops.items) is
+  plan_asks (reply.Plan (plan.Batch ops)) a is = numbers_ask a (in_order backwards ops) is
   plan_asks (reply.Plan (plan.Mend op)) a is = mend_asks op op.effect a is
   plan_asks r a is = ap (asked_tasks client backwards) (sym is)

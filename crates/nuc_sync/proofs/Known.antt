@@ -88,7 +88,7 @@ module _ (count client : ℕ) (backwards : Bool) (is : IsClientOf count client) 
 more_known : (count : ℕ) (t : Task) (r : Reply) → IsTaskOf count t → AreTasksOf count (more t r)
 more_known count (pulls client) (reply.Pulled entries cursor) is = pulls_known count client false is (entries == 0)
 more_known count (plans client backwards) (reply.Plan (plan.Booked op)) is = (is, tt)
-more_known count (plans client backwards) (reply.Plan (plan.Batch ops)) is = next_known count client backwards is (in_order backwards ops.items) false
+more_known count (plans client backwards) (reply.Plan (plan.Batch ops)) is = next_known count client backwards is (in_order backwards ops) false
 more_known count (plans client backwards) (reply.Plan (plan.Mend op)) is = mend_known count client backwards is op op.effect
 more_known count (begins client backwards n left applied) (reply.Started (start.Ok bytes)) is = (is, tt)
 more_known count (begins client backwards n left applied) r is = (is, tt)

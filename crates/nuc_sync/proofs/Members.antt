@@ -50,8 +50,8 @@ runs_keep_members w ts v left (goes x t a asked u y rest moves later) =
 stop_keeps : (w : WorldData) (e : Event) (why : Stop) (v : WorldData) → Stops w e why v → count_of v.now ≡ count_of w.now
 stop_keeps w e stop.NoClient v is = same_count w v is.1
 stop_keeps w e stop.LogFull v is = same_count w v is.2
-stop_keeps w e stop.FolderFault v is = recounted is.client after_one w.now v.now is.unlisted.counted
-stop_keeps w e (stop.TooLong n) v is = same_count w v is.1
+stop_keeps w e stop.FolderFault v is = recounted is.1.client after_one w.now v.now is.1.unlisted.counted
+stop_keeps w e (stop.TooLong n) v is = same_count w v is.2
 stop_keeps w e stop.Memory v is = same_count w v is
 
 refusal_keeps : (t : Task) (o : Option Event) (w : WorldData) (why : Stop) (v : WorldData) → Refuses t o w why v → count_of v.now ≡ count_of w.now

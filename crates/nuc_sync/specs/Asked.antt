@@ -55,7 +55,7 @@ AsksMend op e a = AreNumbers a (op.number ∷ [])
 
 abbrev pub AsksPlan : Bool → Planned → Asked → Type 0
 AsksPlan backwards (plan.Booked op) a = a ≡ asked.Plan
-AsksPlan backwards (plan.Batch ops) a = AreNumbers a (in_order backwards ops.items)
+AsksPlan backwards (plan.Batch ops) a = AreNumbers a (in_order backwards ops)
 AsksPlan backwards (plan.Mend op) a = AsksMend op op.effect a
 AsksPlan backwards p a = a ≡ asked.Nothing
 

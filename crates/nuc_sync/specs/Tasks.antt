@@ -60,7 +60,7 @@ after_mend client backwards op e = begins client backwards op.number [] false �
 abbrev pub more : Task → Reply → List Task
 more (pulls client) (reply.Pulled entries cursor) = cond (entries == 0) [] (pulls client ∷ [])
 more (plans client backwards) (reply.Plan (plan.Booked op)) = plans client backwards ∷ []
-more (plans client backwards) (reply.Plan (plan.Batch ops)) = next client backwards (in_order backwards ops.items) false
+more (plans client backwards) (reply.Plan (plan.Batch ops)) = next client backwards (in_order backwards ops) false
 more (plans client backwards) (reply.Plan (plan.Mend op)) = after_mend client backwards op op.effect
 more (begins client backwards n left applied) (reply.Started (start.Ok bytes)) = takes client backwards n left applied ∷ []
 more (begins client backwards n left applied) r = ends client backwards n left applied ∷ []

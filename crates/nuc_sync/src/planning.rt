@@ -76,6 +76,7 @@ fn carry_out<T: TreeLike + Drop>(
     ensures ok { IfOk result (λ applied. Runs world.old (next client backwards numbers.now false) world.new (next client backwards [] applied)) }
     ensures err { IfErr result (λ stop. Breaks world.old (next client backwards numbers.now false) stop world.new) }
 {
+    // The loop's tasks speak of the order; its body doesn't read it.
     let _backwards = backwards;
     let mut applied = false;
     for number in numbers {

@@ -328,7 +328,7 @@ module _ (t u : Turn) (journal : IsKeptJournal t.shared) (at : IsAt t.shared.ent
   answer_fares answer.Empty is = same_planning is.1
   answer_fares (answer.Busy k) is = same_planning is.2
   answer_fares (answer.Booked shown) is = booked_fares shown is
-  answer_fares (answer.Batch shown) is = launched_fares shown.items is
+  answer_fares (answer.Batch shown) is = launched_fares shown is
   answer_fares (answer.Mend shown) is = mend_goes is.op is.plan is.op.effect refl is.goes
 
 pub plan_fares : (t u : Turn) → IsKeptJournal t.shared → IsAt t.shared.entries t.member.client.remote → CanPlan t.member.client t.shared.ids.next_id → IsClear t.shared t.member.client

@@ -383,7 +383,7 @@ module _ (t : Turn) (kinds : ℕ → Kind) (shared : IsShared t.shared kinds) (m
   answers_turn answer.Empty u is now = stays_turn u is.1 now
   answers_turn (answer.Busy k) u is now = stays_turn u is.2 now
   answers_turn (answer.Booked shown) u is now = changes_turn (answer.Booked shown) u is now (booked (planning_of u) shown is)
-  answers_turn (answer.Batch shown) u is now = changes_turn (answer.Batch shown) u is now (launched (planning_of u) shown.items is)
+  answers_turn (answer.Batch shown) u is now = changes_turn (answer.Batch shown) u is now (launched (planning_of u) shown is)
   answers_turn (answer.Mend shown) u is now = changes_turn (answer.Mend shown) u is now (mend_goes (planning_of u) is.op is.plan is.op.effect refl is.goes)
 
 pub plan_turns : (answer : Planned) (t u : Turn) (kinds : ℕ → Kind) → IsShared t.shared kinds → IsMember t.shared kinds t.member → Plans answer t u → Turned t u kinds

@@ -15,7 +15,7 @@ use Rattle.nuc_world.specs.State.{MemberState, Turn}
 use Rattle.nuc_world.specs.Step.{Does, Watches}
 use Rattle.nuc_world.specs.Turns.{CostsTurn, HasNoTurn, IsList, MissesTurn, StepsTurn, StopsTurn}
 use Rattle.nuc_world.specs.Turns.CostsTurn.{one, listing}
-use Rattle.nuc_world.specs.Units.{Refuses, units_by, units_of}
+use Rattle.nuc_world.specs.Units.{HasRoom, Refuses, units_by, units_of}
 use Rattle.nuc_world.specs.Unlisted.{Unlists}
 use Rattle.nuc_world.specs.declared.observing.ListFault.{ListFault}
 use Rattle.nuc_world.specs.declared.observing.ListFault.TheVariants as fault
@@ -90,19 +90,20 @@ same_turns s t m n shared member = ap (λ x. turn_at x m) shared ∙ ap (λ x. t
 pub full_turn : (log : List LogEntry) (e : Event) (t : Turn) → MOST_UNITS < units_of log + 1 → HasNoTurn log e t.member
 full_turn log e t passes = record { cost = 1; costs = one; passes = passes }
 
-long_listing : (log : List LogEntry) (e : Event) (t u v : Turn) (n : ℕ) → v ≡ t → IsList e × Unlists (fault.TooLong n) t.member u.member × (u.shared ≡ t.shared)
+long_listing : (log : List LogEntry) (e : Event) (t u v : Turn) (n : ℕ) → HasRoom log → v ≡ t → IsList e × Unlists (fault.TooLong n) t.member u.member × (u.shared ≡ t.shared)
     → StopsTurn log e (stop.TooLong n) t v
-long_listing log e t u v n same (is, (lasts, more), shared) = (is, lasts, more, same)
+long_listing log e t u v n room same (is, (lasts, more), shared) = (room, is, lasts, more, same)
 
 module _ (log : List LogEntry) (e : Event) (t u v : Turn) where
-  pub failed_turn : MissesTurn e fault.Failed t u → v ≡ u → StopsTurn log e stop.FolderFault t v
-  failed_turn misses same =
+  pub failed_turn : HasRoom log → MissesTurn e fault.Failed t u → v ≡ u → StopsTurn log e stop.FolderFault t v
+  failed_turn room misses same =
       let lists = missed_listing e fault.Failed t u (λ is. cc) misses in
-      subst (λ (w : Turn). IsList e × Unlists fault.Failed t.member w.member × (w.shared ≡ t.shared)) (sym same) lists
+      let (is, unlists, shared) = subst (λ (w : Turn). IsList e × Unlists fault.Failed t.member w.member × (w.shared ≡ t.shared)) (sym same) lists in
+      (room, is, unlists, shared)
 
-  pub long_turn : (n : ℕ) → MissesTurn e (fault.TooLong n) t u → v ≡ t → StopsTurn log e (stop.TooLong n) t v
-  long_turn n misses same =
-      long_listing log e t u v n same (missed_listing e (fault.TooLong n) t u (λ is. cc) misses)
+  pub long_turn : (n : ℕ) → HasRoom log → MissesTurn e (fault.TooLong n) t u → v ≡ t → StopsTurn log e (stop.TooLong n) t v
+  long_turn n room misses same =
+      long_listing log e t u v n room same (missed_listing e (fault.TooLong n) t u (λ is. cc) misses)
 
 module _ (log now : List LogEntry) (e : Event) (answer : Reply) (t u v : Turn) (does : Does log e answer t u) where
   pub entered_turn : (r : Result (Unit {0}) Stop) → OnOk r (now ≡ log ++ entry.Stepped e answer ∷ []) → OnOk r (v ≡ u) → OnOk r (StepsTurn log e t v now)

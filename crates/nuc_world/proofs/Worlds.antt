@@ -188,21 +188,24 @@ module _ (s : WebState) (ms : List MemberState) (i : ℕ) (m n : MemberState) (t
     record { cost = full.cost; costs = costs_world full.cost full.costs; passes = full.passes },
     same_world same,
   )
-  stops_turn stop.FolderFault (is, (fails, counted), same) = record {
-    client = suc i;
-    lists = list_of e (suc i) its is;
-    unlisted = record {
-      counted = record {
-        member = m;
-        was = was;
-        now = same_state t s (set ms i n) (set ms i (record m { due = after_one m.due })) same (ap (λ x. set ms i x) counted);
+  stops_turn stop.FolderFault (room, is, (fails, counted), same) = (
+    room,
+    record {
+      client = suc i;
+      lists = list_of e (suc i) its is;
+      unlisted = record {
+        counted = record {
+          member = m;
+          was = was;
+          now = same_state t s (set ms i n) (set ms i (record m { due = after_one m.due })) same (ap (λ x. set ms i x) counted);
+        };
+        fails = fails;
       };
-      fails = fails;
-    };
-    log = refl;
-  }
-  stops_turn (stop.TooLong k) (is, lasts, more, same) =
-      (record { client = suc i; member = m; lists = list_of e (suc i) its is; was = was; lasts = lasts; more = more }, same_world same)
+      log = refl;
+    },
+  )
+  stops_turn (stop.TooLong k) (room, is, lasts, more, same) =
+      (room, record { client = suc i; member = m; lists = list_of e (suc i) its is; was = was; lasts = lasts; more = more }, same_world same)
   stops_turn stop.Memory same = same_world same
 
 -- A STEP OF WHAT ALL SHARE
@@ -233,9 +236,9 @@ reaches_same w v reaches same = subst (λ (d : WorldData). Reaches d.log d.now) 
 pub reaches_stops : (w v : WorldData) (e : Event) (why : Stop) → Reaches w.log w.now → Stops w e why v → Reaches v.log v.now
 reaches_stops w v e stop.NoClient reaches (none, same) = reaches_same w v reaches same
 reaches_stops w v e stop.LogFull reaches (is, full, same) = reaches_same w v reaches same
-reaches_stops w v e stop.FolderFault reaches fails =
+reaches_stops w v e stop.FolderFault reaches (room, fails) =
     subst (λ log. Reaches log v.now) (sym fails.log) (unlisted w.log w.now fails.client v.now reaches fails.unlisted)
-reaches_stops w v e (stop.TooLong n) reaches (more, same) = reaches_same w v reaches same
+reaches_stops w v e (stop.TooLong n) reaches (room, more, same) = reaches_same w v reaches same
 reaches_stops w v e stop.Memory reaches same = reaches_same w v reaches same
 
 pub reaches_either : (w v : WorldData) (e : Event) (r : Result (Unit {0}) Stop) → Reaches w.log w.now → OnOk r (Steps w e v) → IfErr r (λ why. Stops w e why v)

@@ -15,7 +15,7 @@ use Rattle.nuc_step.specs.Watching.{CanWatch}
 use Rattle.nuc_world.specs.Form.{CanTake}
 use Rattle.nuc_world.specs.State.{MemberState, Turn, is_due}
 use Rattle.nuc_world.specs.Step.{Does, client_of}
-use Rattle.nuc_world.specs.Units.{units_of}
+use Rattle.nuc_world.specs.Units.{HasRoom, units_of}
 use Rattle.nuc_world.specs.Unlisted.{HasMore, Unlists}
 use Rattle.nuc_world.specs.declared.observing.ListFault.{ListFault}
 use Rattle.nuc_world.specs.declared.observing.ListFault.TheVariants as fault
@@ -59,8 +59,8 @@ IsList e = ⊥
 abbrev pub StopsTurn : List LogEntry → Event → Stop → Turn → Turn → Type 0
 StopsTurn log e stop.NoClient t u = ⊥
 StopsTurn log e stop.LogFull t u = HasNoTurn log e t.member × (u ≡ t)
-StopsTurn log e stop.FolderFault t u = IsList e × Unlists fault.Failed t.member u.member × (u.shared ≡ t.shared)
-StopsTurn log e (stop.TooLong n) t u = IsList e × (is_due t.member.due ≡ false) × HasMore t.member n × (u ≡ t)
+StopsTurn log e stop.FolderFault t u = HasRoom log × IsList e × Unlists fault.Failed t.member u.member × (u.shared ≡ t.shared)
+StopsTurn log e (stop.TooLong n) t u = HasRoom log × IsList e × (is_due t.member.due ≡ false) × HasMore t.member n × (u ≡ t)
 StopsTurn log e stop.Memory t u = u ≡ t
 
 -- a step of a member that was taken, and entered

@@ -1,5 +1,5 @@
 -- How long a log is: an entry is one unit, and one more for each item of a listing.
-use Rattle.std.specs.Prelude.{◌<◌, ◌+◌, ℕ, List, length, sum_by}
+use Rattle.std.specs.Prelude.{◌<◌, ◌≤◌, ◌+◌, ℕ, List, length, sum_by}
 use Rattle.nuc_log.specs.declared.log.LogEntry.{LogEntry}
 use Rattle.nuc_log.specs.declared.log.LogEntry.TheVariants as entry
 use Rattle.nuc_log.specs.declared.reply.Reply.{Reply}
@@ -18,6 +18,10 @@ units (entry.Stepped e r) = units_by r
 
 abbrev pub units_of : List LogEntry → ℕ
 units_of log = sum_by units log
+
+-- the log takes one unit more
+abbrev pub HasRoom : List LogEntry → Type 0
+HasRoom log = units_of log + 1 ≤ MOST_UNITS
 
 -- why a log of so many units doesn't take a reply
 abbrev pub Refuses : ℕ → Reply → Stop → Type 0

@@ -11,7 +11,7 @@ use Rattle.nuc_log.specs.declared.reply.Reply.{Reply}
 use Rattle.nuc_world.specs.Runs.{IsUnlisted, opening}
 use Rattle.nuc_world.specs.State.{MemberState, WorldState, fresh, is_due, member_of}
 use Rattle.nuc_world.specs.Step.{IsStep, client_of}
-use Rattle.nuc_world.specs.Units.{units_of}
+use Rattle.nuc_world.specs.Units.{HasRoom, units_of}
 use Rattle.nuc_world.specs.Unlisted.{HasMore}
 use Rattle.nuc_world.specs.declared.stop.Stop.{Stop}
 use Rattle.nuc_world.specs.declared.stop.Stop.TheVariants as stop
@@ -72,10 +72,11 @@ pub record ListsTooMuch (w : WorldState) (e : Event) (n : ℕ) : Type 0 where
   pub lasts : is_due member.due ≡ false
   pub more : HasMore member n
 
--- in this order; nothing is changed then but a folder's count of calls, where it failed
+-- no two of these hold of one step, but that memory may be wanted at any time; nothing is changed then but a folder's count
+-- of calls, where it failed
 abbrev pub Stops : WorldData → Event → Stop → WorldData → Type 0
 Stops w e stop.NoClient v = ¬ (is_of e w.now) × (v ≡ w)
 Stops w e stop.LogFull v = is_of e w.now × HasNoRoom w e × (v ≡ w)
-Stops w e stop.FolderFault v = FailsToList w e v
-Stops w e (stop.TooLong n) v = ListsTooMuch w.now e n × (v ≡ w)
+Stops w e stop.FolderFault v = HasRoom w.log × FailsToList w e v
+Stops w e (stop.TooLong n) v = HasRoom w.log × ListsTooMuch w.now e n × (v ≡ w)
 Stops w e stop.Memory v = v ≡ w

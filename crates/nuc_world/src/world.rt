@@ -15,18 +15,13 @@ use crate::stop::Stop;
 use crate::turn::client_of;
 use nuc_base::TreeLike;
 use nuc_blocks::Store;
-use nuc_edits::Edits;
-use nuc_folder::MemFolder;
 use nuc_log::{Event, Log, Member, View};
-use nuc_server::LoopServer;
-use nuc_step::Client;
 use std::alloc::{AllocError, Global};
 use std::marker::Model;
 
 /// A server, its clients, and their folders in memory, with the log of what happened.
 ///
-/// The log always leads from the opening to what there is: whoever plays its events again comes to the same trees, edits
-/// and folders. Clients count from 1.
+/// The log always leads from the opening to what there is, step by step. Clients count from 1.
 #[derive(Drop)]
 pub struct World<T: TreeLike> {
     shared: Shared,
@@ -123,6 +118,7 @@ impl<T: TreeLike + Drop> World<T> {
         Some(&self.members[index])
     }
 
+    /// All of it, as a report shows it.
     pub fn view(&self) -> View<'_, T>
         ensures server { result.server.now.now ≡ self.now.now.shared.entries }
         ensures edits { result.edits.now.now ≡ self.now.now.shared.edits }
@@ -142,6 +138,7 @@ impl<T: TreeLike + Drop> World<T> {
         &self.shared.store
     }
 
+    /// What has happened, without the world that it led to.
     pub fn into_log(self) -> Log
         ensures log { result ≡ self.log }
         ensures reached { Reaches self.log self.now }
