@@ -10,7 +10,7 @@ use Rattle.std.proofs.lemmas.List.{length-map, get_or-map}
 use Rattle.std.proofs.lemmas.List.Elements.{All-tail}
 use Rattle.nuc_base.specs.declared.node.Node.{Node}
 use Rattle.nuc_base.proofs.Maps.{one_node}
-use Rattle.nuc_folder.specs.Listing.{AreInside, IsBefore, IsIn, IsListing, OneListing, Unfolds, item_of, keys_of}
+use Rattle.nuc_folder.specs.Listing.{AreBelow, AreInside, IsBefore, IsIn, IsListing, OneListing, Unfolds, item_of, keys_of}
 use Rattle.nuc_folder.specs.Listing.Unfolds.{none, next}
 use Rattle.nuc_folder.specs.State.{FolderState}
 use Rattle.nuc_folder.specs.declared.item.Item.{Item}
@@ -112,6 +112,10 @@ one_unfolding s _ _ _ (next item inside tops below rest is under more) (next _ o
     let end = one_unfolding s tops rest ends more most in
     ap (λ l. item ∷ (l ++ rest)) mid ∙ ap (λ l. item ∷ (its ++ l)) end
 
+-- the items of what is below x are told by it
+pub one_below : (s : FolderState) (x : ℕ) (items others : List Item) → AreBelow s x items → AreBelow s x others → items ≡ others
+one_below s x items others is too =
+    one_unfolding s too.top items others (subst (λ l. Unfolds s l items) (one_inside s x is.top too.top is.inside too.inside) is.unfolds) too.unfolds
+
 pub one_listing : OneListing
-one_listing s items others is too =
-    one_unfolding s too.top items others (subst (λ l. Unfolds s l items) (one_inside s 0 is.top too.top is.inside too.inside) is.unfolds) too.unfolds
+one_listing s items others is too = one_below s 0 items others is too

@@ -12,7 +12,7 @@ pub mod KeptPut
 pub mod Made
 mod Members
 pub mod Origin
-mod Reordered
+pub mod Reordered
 mod Standing
 mod Undoing
 mod Whose

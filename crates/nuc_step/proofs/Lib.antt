@@ -16,13 +16,13 @@ pub mod Noticed
 pub mod Observes
 pub mod Outcomes
 mod Ready
-mod ReadyPlans
+pub mod ReadyPlans
 pub mod ScanBrings
-mod StaysReady
+pub mod StaysReady
 pub mod Steady
 mod Swaps
 mod Trials
 pub mod Turned
 pub mod Versions
 pub mod WatchBrings
-mod Written
+pub mod Written

@@ -15,6 +15,8 @@ mod AccountedWishes
 mod Counted
 mod Dones
 mod Entered
+mod FolderPlaces
+mod FoldersDiffer
 mod Keeping
 mod Kept
 mod Later
@@ -22,6 +24,16 @@ mod Marked
 mod Members
 mod Mended
 mod Observed
+mod OneJudge
+mod OnePlanned
+mod OneRun
+mod OneScan
+mod OneStart
+pub mod OneStep
+mod OneTaken
+mod OneTurn
+mod OneUser
+mod OneWatch
 mod Plans
 mod Quiet
 mod Ran

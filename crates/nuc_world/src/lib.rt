@@ -20,7 +20,7 @@ mod tests;
 mod turn;
 mod world;
 
-pub use laws::each_step_keeps_a_world;
+pub use laws::{each_step_has_one_end, each_step_keeps_a_world};
 pub use nothing_lost::nothing_recorded_is_lost;
 pub use stop::{MOST_UNITS, Stop};
 pub use world::World;
