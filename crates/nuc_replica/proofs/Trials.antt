@@ -5,7 +5,8 @@ use Rattle.std.specs.FinMap.{empty, get, get-empty, insert}
 use Rattle.nuc_base.specs.Legal.{LegalCut, LegalPut}
 use Rattle.nuc_base.specs.Trees.{Nodes}
 use Rattle.nuc_base.specs.declared.node.Node.{Node}
-use Rattle.nuc_base.proofs.Maps.{after_put, get_put_other, get_put_same}
+use Rattle.nuc_base.proofs.Maps.{after_put, get_put_other, get_put_same, same_or_not}
+use Rattle.nuc_lookup.proofs.Maps as numbers
 use Rattle.nuc_observe.specs.Keys.{KeyMap}
 use Rattle.nuc_replica.specs.Local.{HasKey, HaveKeys}
 use Rattle.nuc_undo.specs.Laid.{Laid, with_node}
@@ -40,3 +41,14 @@ none_have_keys m keys tree none x =
     let node : get m x ≡ None = ap (λ k. get k x) tree ∙ get-empty nat_cmp x in
     let key : get keys x ≡ None = ap (λ k. get k x) none ∙ get-empty nat_cmp x in
     subst (λ n. HasKey n (get keys x)) (sym node) (subst (λ r. HasKey None r) (sym key) tt)
+
+-- x has come with a key
+with_one_more : (m : Nodes) (keys : KeyMap) (x k : ℕ) (n : Node) → HaveKeys m keys → HaveKeys (insert m x n) (insert keys x k)
+with_one_more m keys x k n have = λ y. elim (same_or_not y x) [
+  | inl same ↦ subst (λ z. HasKey (get (insert m x n) z) (get (insert keys x k) z)) (sym same) (rw (get_put_same m x n, numbers.get_put_same keys x k) tt)
+  | inr apart ↦ rw (get_put_other m x n y apart, numbers.get_put_other keys x k y apart) (have y)
+]
+
+pub have_keys_more : (m t : Nodes) (keys js : KeyMap) (x k : ℕ) (n : Node) → t ≡ insert m x n → js ≡ insert keys x k → HaveKeys m keys → HaveKeys t js
+have_keys_more m t keys js x k n tree key have =
+    subst (λ (u : Nodes). HaveKeys u js) (sym tree) (subst (λ (ks : KeyMap). HaveKeys (insert m x n) ks) (sym key) (with_one_more m keys x k n have))

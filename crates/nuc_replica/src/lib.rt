@@ -4,6 +4,8 @@
 mod ahead;
 mod apply;
 mod earlier;
+#[cfg(test)]
+mod exchange_tests;
 mod following;
 mod local;
 #[cfg(test)]

@@ -16,7 +16,7 @@ use std::alloc::Global;
 use std::process::Abort;
 
 /// A folder with nothing in it.
-fn fresh(alloc: Global) -> Local<Tree> {
+pub(crate) fn fresh(alloc: Global) -> Local<Tree> {
     Local::of(alloc, Tree::new(alloc), Keys::new(alloc))
 }
 
@@ -32,7 +32,7 @@ fn see_that_it_is_legal(rt: &impl Abort, local: &Local<Tree>, id: NodeId, node: 
 }
 
 /// Sees that an identity isn't there.
-fn see_that_it_is_new(rt: &impl Abort, local: &Local<Tree>, id: NodeId)
+pub(crate) fn see_that_it_is_new(rt: &impl Abort, local: &Local<Tree>, id: NodeId)
     ensures { map.get local.now.now.tree id.0 ≡ None }
 {
     assert!(rt; local.tree().get(id).is_none());
@@ -68,7 +68,14 @@ fn see_that_it_may_go(rt: &impl Abort, local: &Local<Tree>, id: NodeId)
     }
 }
 
-fn add(rt: &impl Abort, alloc: Global, local: &mut Local<Tree>, id: u64, shape: Shape, key: u64) {
+pub(crate) fn add(
+    rt: &impl Abort,
+    alloc: Global,
+    local: &mut Local<Tree>,
+    id: u64,
+    shape: Shape,
+    key: u64,
+) {
     let (id, key) = (NodeId(id), Key(key));
     let node = node(rt, alloc, shape);
     see_that_it_is_new(rt, local, id);
@@ -159,7 +166,7 @@ fn hand_over(
 }
 
 /// Just these identities are there, each with this parent, name, version and key.
-fn has(rt: &impl Abort, local: &Local<Tree>, rows: &[(u64, Shape, u64)]) {
+pub(crate) fn has(rt: &impl Abort, local: &Local<Tree>, rows: &[(u64, Shape, u64)]) {
     assert_eq!(rt; local.tree().len(), rows.len() as u64);
     assert_eq!(rt; local.keys().len(), rows.len() as u64);
     for &(id, (parent, name, ver), key) in rows {
