@@ -1,0 +1,12 @@
+pub mod Altered
+pub mod Altering
+pub mod Calling
+pub mod Cutting
+pub mod LocalKept
+pub mod Making
+pub mod Matched
+pub mod Putting
+pub mod Shown
+pub mod Splitting
+pub mod Steps
+pub mod Whole
