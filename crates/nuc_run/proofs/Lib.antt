@@ -1,3 +1,4 @@
+mod AtRest
 mod Ended
 mod Fitted
 mod Marks

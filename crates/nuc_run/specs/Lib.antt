@@ -1,3 +1,4 @@
+pub mod AtRest
 pub mod Outcome
 pub mod Scripts
 pub mod Sound

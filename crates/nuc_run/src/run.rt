@@ -1,6 +1,7 @@
 ghost use Rattle.std.specs.Prelude.{◌≡◌, ◌≢◌, [], IfErr, MatchBool};
 ghost use Rattle.nuc_io.specs.Causes.{HasCause};
 ghost use Rattle.nuc_report.specs.Output.{refusal_text};
+ghost use Rattle.nuc_run.specs.AtRest.{PlansAreExact, RestsThroughout};
 ghost use Rattle.nuc_run.specs.Outcome.{AreRun, EndsAs, IsBegun, JudgesWords, RunsCommands, RunsScript, WritesOutput, WritesRun};
 ghost use Rattle.nuc_run.specs.Sound.{IsSoundThroughout};
 ghost use Rattle.nuc_run.specs.Statuses.{HasText, IsRefusal, IsStatusOf, WasRun};
@@ -15,7 +16,7 @@ use nuc_log::Log;
 use nuc_report::{Ended, Status, output as output_text, refusal};
 use nuc_script::{Command, ScriptRead, read_script};
 use nuc_world::{Stop, World};
-use std::alloc::{AllocError, Global};
+use std::alloc::Global;
 use std::rc::RcStr;
 
 /// Reads a script, runs it over a fresh world in memory, and writes the log, the report and the status.
@@ -35,8 +36,10 @@ pub fn run_script<S: Source, K: Sink>(
     ensures end { IsBegun result.before → S.ended input.new }
     ensures read { HasCause (S.faults input.old) (S.faults input.new) (result.before ≡ Status.ReadFault) }
 
-    // What holds after each step of the log.
+    // What holds after each step of the log, of each plan, and wherever a client is left alone.
     ensures sound { IsSoundThroughout result.log }
+    ensures plans { PlansAreExact result.log }
+    ensures rests { RestsThroughout result.log }
 
     // What was written.
     ensures status { EndsAs result.before result.status }

@@ -3,13 +3,18 @@ use Rattle.nuc_script.specs.Fitting.{FitBehind}
 use Rattle.nuc_script.specs.Taking.{ReadsScript}
 use Rattle.nuc_script.specs.declared.script_read.ScriptRead.TheVariants as read
 use Rattle.nuc_script.proofs.CommandsFit.{every_script_fits}
-use Rattle.nuc_world.proofs.Accounted.{nothing_is_lost}
-use Rattle.nuc_world.proofs.Reached.{reached_world}
+use Rattle.nuc_run.proofs.AtRest.{plans_are_exact, rests_throughout, sound_throughout}
 use Rattle.nuc_run.proofs.Ended.{ran_script, was_read}
 use Rattle.nuc_run.proofs.run.run_script.Goals as goal
 
 pub returns-then-not-are_run-clause-sound : goal.returns-then-not-are_run-clause-sound
-returns-then-not-are_run-clause-sound g c = λ es rest w whole reached. record { world = reached_world es w reached; accounted = nothing_is_lost es w reached }
+returns-then-not-are_run-clause-sound g c = sound_throughout _
+
+pub returns-then-not-are_run-clause-plans : goal.returns-then-not-are_run-clause-plans
+returns-then-not-are_run-clause-plans g c = plans_are_exact _
+
+pub returns-then-not-are_run-clause-rests : goal.returns-then-not-are_run-clause-rests
+returns-then-not-are_run-clause-rests g c = rests_throughout _
 
 pub run-requires : goal.run-requires
 run-requires g c =
@@ -25,13 +30,37 @@ returns-in-Commands-clause-script g c =
     ran_script left rest cs c.run.result.before c.run.result.log (was_read left rest cs script) c.run.ensures.before
 
 pub returns-in-Commands-clause-sound : goal.returns-in-Commands-clause-sound
-returns-in-Commands-clause-sound g c = λ es rest w whole reached. record { world = reached_world es w reached; accounted = nothing_is_lost es w reached }
+returns-in-Commands-clause-sound g c = sound_throughout _
+
+pub returns-in-Commands-clause-plans : goal.returns-in-Commands-clause-plans
+returns-in-Commands-clause-plans g c = plans_are_exact _
+
+pub returns-in-Commands-clause-rests : goal.returns-in-Commands-clause-rests
+returns-in-Commands-clause-rests g c = rests_throughout _
 
 pub returns-in-Fault-clause-sound : goal.returns-in-Fault-clause-sound
-returns-in-Fault-clause-sound g c = λ es rest w whole reached. record { world = reached_world es w reached; accounted = nothing_is_lost es w reached }
+returns-in-Fault-clause-sound g c = sound_throughout _
+
+pub returns-in-Fault-clause-plans : goal.returns-in-Fault-clause-plans
+returns-in-Fault-clause-plans g c = plans_are_exact _
+
+pub returns-in-Fault-clause-rests : goal.returns-in-Fault-clause-rests
+returns-in-Fault-clause-rests g c = rests_throughout _
 
 pub returns-in-ReadFault-clause-sound : goal.returns-in-ReadFault-clause-sound
-returns-in-ReadFault-clause-sound g c = λ es rest w whole reached. record { world = reached_world es w reached; accounted = nothing_is_lost es w reached }
+returns-in-ReadFault-clause-sound g c = sound_throughout _
+
+pub returns-in-ReadFault-clause-plans : goal.returns-in-ReadFault-clause-plans
+returns-in-ReadFault-clause-plans g c = plans_are_exact _
+
+pub returns-in-ReadFault-clause-rests : goal.returns-in-ReadFault-clause-rests
+returns-in-ReadFault-clause-rests g c = rests_throughout _
 
 pub returns-in-Memory-clause-sound : goal.returns-in-Memory-clause-sound
-returns-in-Memory-clause-sound g c = λ es rest w whole reached. record { world = reached_world es w reached; accounted = nothing_is_lost es w reached }
+returns-in-Memory-clause-sound g c = sound_throughout _
+
+pub returns-in-Memory-clause-plans : goal.returns-in-Memory-clause-plans
+returns-in-Memory-clause-plans g c = plans_are_exact _
+
+pub returns-in-Memory-clause-rests : goal.returns-in-Memory-clause-rests
+returns-in-Memory-clause-rests g c = rests_throughout _
