@@ -1,4 +1,4 @@
-ghost use Rattle.std.specs.Prelude.{◌≡◌, ◌==◌, IfOk, IfSome, IsTrue};
+ghost use Rattle.std.specs.Prelude.{◌≡◌, ◌==◌, IfOk, IfSome, IsTrue, OnOk};
 ghost use Rattle.std.specs.Option.{option_copied};
 ghost use Rattle.nuc_base.specs.Kinds.{FitsKind};
 ghost use Rattle.nuc_base.specs.Trees.{OneKind, WellFormed};
@@ -6,8 +6,8 @@ ghost use Rattle.nuc_base.specs.Trees.{OneKind, WellFormed};
 use crate::fault::Fault;
 use crate::layout::{self, FILES};
 use nuc_base::{Hashes, Node, NodeId, TreeLike, Ver};
+use nuc_index::IndexTree;
 use nuc_plan::{Plan, plan};
-use nuc_tree::Tree;
 use std::alloc::{AllocError, Global};
 
 /// Contents that are as their versions.
@@ -30,16 +30,34 @@ pub(crate) fn plans(
 ) -> Result<String, Fault> {
     let agreed = filled(alloc, count, 0)?;
     let local = filled(alloc, count, differing)?;
-    if !(agree(&agreed, &agreed) && agree(&agreed, &local) && agree(&local, &agreed)) {
-        return Err(Fault::Refused);
-    }
+    must_agree(&agreed, &agreed)?;
+    must_agree(&agreed, &local)?;
+    must_agree(&local, &agreed)?;
     let next = NodeId(count.checked_add(1).ok_or(AllocError)?);
+    let operations = plan_again(alloc, &agreed, &local, next, times)?;
+    Ok(format!(in alloc; "plan {operations} operations")?)
+}
+
+/// Plans so many times where Remote and Synced are one tree. Answers how many operations the last plan has.
+fn plan_again<T: TreeLike>(
+    alloc: Global,
+    agreed: &T,
+    local: &T,
+    next: NodeId,
+    times: u64,
+) -> Result<u64, Fault>
+    requires agreed_form { WellFormed (T.nodes agreed.now) }
+    requires local_form { WellFormed (T.nodes local.now) }
+    requires agreed_kinds { OneKind (T.nodes agreed.now) (T.nodes agreed.now) }
+    requires kinds { OneKind (T.nodes agreed.now) (T.nodes local.now) }
+    requires local_kinds { OneKind (T.nodes local.now) (T.nodes agreed.now) }
+{
     let mut operations = 0;
     for _ in 0..times {
-        let planned = plan(alloc, &agreed, &local, &agreed, &ByVersion, next)?;
+        let planned = plan(alloc, agreed, local, agreed, &ByVersion, next)?;
         operations = size(&planned);
     }
-    Ok(format!(in alloc; "plan {operations} operations")?)
+    Ok(operations)
 }
 
 fn size(plan: &Plan) -> u64 {
@@ -51,10 +69,10 @@ fn size(plan: &Plan) -> u64 {
 }
 
 /// Folders with their files, so many nodes in all. The first few have names that are theirs in this tree alone.
-fn filled(alloc: Global, count: u64, renamed: u64) -> Result<Tree, Fault>
+fn filled(alloc: Global, count: u64, renamed: u64) -> Result<IndexTree, Fault>
     ensures { IfOk result (λ tree. WellFormed tree.nodes) }
 {
-    let mut tree = Tree::new(alloc);
+    let mut tree = IndexTree::new(alloc);
     let mut parent = NodeId(0);
     for number in 0..count {
         let is_folder = number % (FILES + 1) == 0;
@@ -92,7 +110,7 @@ fn label(number: u64, renamed: bool) -> Option<u64> {
 }
 
 /// Puts a node under the next identity.
-fn put(tree: &mut Tree, node: Node) -> Result<NodeId, Fault>
+fn put(tree: &mut IndexTree, node: Node) -> Result<NodeId, Fault>
     requires form { WellFormed tree.old.nodes }
     requires fits { FitsKind node }
     ensures { WellFormed tree.new.nodes }
@@ -102,9 +120,20 @@ fn put(tree: &mut Tree, node: Node) -> Result<NodeId, Fault>
     Ok(id)
 }
 
+/// Refuses two trees in which something has two kinds.
+fn must_agree<T: TreeLike>(a: &T, b: &T) -> Result<(), Fault>
+    ensures { OnOk result (OneKind (T.nodes a.now) (T.nodes b.now)) }
+{
+    if agree(a, b) {
+        Ok(())
+    } else {
+        Err(Fault::Refused)
+    }
+}
+
 /// Whether what stands in both trees has one kind.
-fn agree(a: &Tree, b: &Tree) -> bool
-    ensures { IsTrue result → OneKind a.now.nodes b.now.nodes }
+fn agree<T: TreeLike>(a: &T, b: &T) -> bool
+    ensures { IsTrue result → OneKind (T.nodes a.now) (T.nodes b.now) }
 {
     for i in 0..a.len() {
         let Some(id) = a.nth(i) else { return false };

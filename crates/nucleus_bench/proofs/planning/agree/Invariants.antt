@@ -6,4 +6,4 @@ use Rattle.nucleus_bench.proofs.planning.agree.Given as goal
 
 -- the identities so far have one kind in both
 abbrev pub invariant-loop-i : goal.invariant-loop-i
-invariant-loop-i l = (j x : ℕ) (n k : Node) → j < l.i → slice_get (keys l.a.nodes) j ≡ Some x → get l.a.nodes x ≡ Some n → get l.b.nodes x ≡ Some k → n.kind ≡ k.kind
+invariant-loop-i g l = (j x : ℕ) (n k : Node) → j < l.i → slice_get (keys (g.T.TreeLike.nodes l.a)) j ≡ Some x → get (g.T.TreeLike.nodes l.a) x ≡ Some n → get (g.T.TreeLike.nodes l.b) x ≡ Some k → n.kind ≡ k.kind
