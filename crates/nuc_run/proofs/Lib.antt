@@ -2,6 +2,9 @@ mod AtRest
 mod Ended
 mod Fitted
 mod Marks
+mod OneMove
+mod OneOutcome
+mod OneStop
 mod Printed
 mod Scripted
 mod Words

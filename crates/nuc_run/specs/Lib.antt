@@ -1,4 +1,5 @@
 pub mod AtRest
+pub mod OneOutcome
 pub mod Outcome
 pub mod Scripts
 pub mod Sound

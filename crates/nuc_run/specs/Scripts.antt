@@ -8,8 +8,10 @@ use Rattle.nuc_script.specs.declared.command.Command.{Command}
 use Rattle.nuc_script.specs.declared.command.Command.TheVariants as command
 use Rattle.nuc_sync.specs.Runs.{Breaks, Runs}
 use Rattle.nuc_sync.specs.Tasks.{Task, fails, once, sync_tasks}
+use Rattle.nuc_world.specs.Units.{units_of}
 use Rattle.nuc_world.specs.World.{WorldData, opened}
 use Rattle.nuc_world.specs.declared.stop.Stop.{Stop}
+use Rattle.nuc_world.specs.declared.stop.TheConstants.{MOST_UNITS}
 
 -- clients count from 1
 abbrev pub IsClientOf : ℕ → ℕ → Type 0
@@ -58,14 +60,20 @@ IsOf clients (command.Fail client call) = IsClientOf clients client × (0 < call
 abbrev pub script_tasks : List Command → List Task
 script_tasks cs = flat_map tasks_of cs
 
+-- no log grows past that
+abbrev pub KeepsToLimit : List LogEntry → Type 0
+KeepsToLimit log = units_of log ≤ MOST_UNITS
+
 -- THE LOGS OF A SCRIPT begin with the opening of a world of its clients. The whole one has all that the commands ask for
 pub record IsWholeLog (cs : List Command) (log : List LogEntry) : Type 0 where
   pub end : WorldData
   pub runs : Runs (opened (clients_of cs)) (script_tasks cs) end []
   pub log_is : log ≡ end.log
+  pub few : KeepsToLimit log
 
 -- one that ended before a step that wasn't taken, and why it wasn't
 pub record IsCutLog (cs : List Command) (why : Stop) (log : List LogEntry) : Type 0 where
   pub end : WorldData
   pub breaks : Breaks (opened (clients_of cs)) (script_tasks cs) why end
   pub log_is : log ≡ end.log
+  pub few : KeepsToLimit log

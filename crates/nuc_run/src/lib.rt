@@ -2,9 +2,11 @@
 #![tactic(auto)]
 
 mod commands;
+mod laws;
 mod run;
 mod stalled;
 #[cfg(test)]
 mod tests;
 
+pub use laws::a_script_has_one_outcome;
 pub use run::run_script;
