@@ -1,11 +1,17 @@
 mod AtRest
+mod Calm
 mod Ended
+mod Entries
 mod Fitted
 mod Marks
 mod OneMove
 mod OneOutcome
 mod OneStop
+mod Parted
 mod Printed
+mod QuietRuns
+mod QuietSoFar
+mod QuietSyncs
 mod Scripted
 mod Words
 mod Viewed

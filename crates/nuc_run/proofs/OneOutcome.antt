@@ -70,7 +70,7 @@ abbrev Halts : Result Unit Stop → List Task → WorldData → WorldData → Ty
 Halts (Ok x) left w v = (left ≡ []) × (v ≡ w)
 Halts (Err why) left w v = StopsAt left w why v × Known why
 
-stop_log : (w : WorldData) (e : Event) (why : Stop) (v : WorldData) → Stops w e why v → v.log ≡ w.log
+pub stop_log : (w : WorldData) (e : Event) (why : Stop) (v : WorldData) → Stops w e why v → v.log ≡ w.log
 stop_log w e stop.NoClient v is = ap (λ (u : WorldData). u.log) is.1
 stop_log w e stop.LogFull v is = ap (λ (u : WorldData). u.log) is.2
 stop_log w e stop.FolderFault v is = is.1.log

@@ -8,5 +8,5 @@ mod stalled;
 #[cfg(test)]
 mod tests;
 
-pub use laws::a_script_has_one_outcome;
+pub use laws::{a_script_ends_quiet, a_script_has_one_outcome};
 pub use run::run_script;
