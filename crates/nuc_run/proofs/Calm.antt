@@ -21,9 +21,9 @@ use Rattle.nuc_quiet.specs.Laws.{NothingFails}
 use Rattle.nuc_server.specs.declared.commit.Commit.{Commit}
 use Rattle.nuc_step.specs.Stages.{planned_of, started_of}
 use Rattle.nuc_world.specs.Starts.{Begins, Reads, StartsOf, Uploads, is_upload}
-use Rattle.nuc_world.specs.State.{Due, MemberState, Turn, WorldState, fresh, fresh_member, is_due, member_of, with_member}
+use Rattle.nuc_world.specs.State.{MemberState, Turn, WorldState, fresh, fresh_member, is_due, member_of, with_member}
 use Rattle.nuc_world.specs.Step.{Does, IsStep, IsTurn, Watches, client_of}
-use Rattle.nuc_world.specs.Takes.{CarriesOut, Commits, CommitsBytes, CommitsRead, IsCarriedOut, IsJudged, TakesBy, TakesOf, bytes_for, commit_of, is_commit, is_recorded, read_in, seen_content, stored, view_of, wanted_content}
+use Rattle.nuc_world.specs.Takes.{CarriesOut, Commits, CommitsBytes, CommitsRead, IsJudged, TakesBy, TakesOf, bytes_for, commit_of, is_commit, is_recorded, read_in, seen_content, stored, view_of, wanted_content}
 use Rattle.nuc_world.proofs.Beside.{op_keeps}
 use Rattle.nuc_world.proofs.Items.{all_front, all_get, all_none, all_set}
 

@@ -1,12 +1,10 @@
 -- Where an entry stands in a log that got one more, and where the last mark of a client stands.
-use Rattle.std.proofs.Common.{◌≡◌, ◌⊎◌, ◌++◌, ◌==◌, ℕ, Bool, true, false, cond, List, [], ◌∷◌, Option, None, Some, inl, inr, refl, sym, ◌∙◌, ap, subst}
+use Rattle.std.proofs.Common.{◌≡◌, ◌⊎◌, ◌++◌, ◌==◌, ℕ, Bool, true, false, cond, List, [], ◌∷◌, Option, None, Some, inl, inr, refl, ◌∙◌, ap}
 use Rattle.std.proofs.lemmas.Bool.{eqb-true}
-use Rattle.nuc_log.specs.declared.event.Event.{Event}
 use Rattle.nuc_log.specs.declared.event.Event.TheVariants as event
 use Rattle.nuc_log.specs.declared.log.LogEntry.{LogEntry}
 use Rattle.nuc_log.specs.declared.log.LogEntry.TheVariants as entry
 use Rattle.nuc_log.specs.declared.reply.MarkReply.{MarkReply}
-use Rattle.nuc_log.specs.declared.reply.Reply.{Reply}
 use Rattle.nuc_log.specs.declared.reply.Reply.TheVariants as reply
 use Rattle.nuc_world.specs.Takes.{or_else}
 use Rattle.nuc_run.specs.Stalled.{last_mark, mark_by}

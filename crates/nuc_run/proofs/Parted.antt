@@ -1,5 +1,5 @@
 -- A run of two lists of tasks ends within the first, or comes to the second.
-use Rattle.std.proofs.Common.{◌≡◌, ◌⊎◌, ◌++◌, List, [], ◌∷◌, inl, inr, refl, sym, ◌∙◌, ap, subst, append_assoc}
+use Rattle.std.proofs.Common.{◌≡◌, ◌++◌, List, [], ◌∷◌, sym, ◌∙◌, ap, subst, append_assoc}
 use Rattle.nuc_sync.specs.Runs.{Moves, Runs, goes, stays}
 use Rattle.nuc_sync.specs.Tasks.{Task}
 use Rattle.nuc_world.specs.World.{WorldData}

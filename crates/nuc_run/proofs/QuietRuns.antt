@@ -1,6 +1,5 @@
 -- A script without `fail` lines ends quiet.
-use Rattle.std.proofs.Common.{◌≡◌, ◌++◌, ℕ, zero, suc, Bool, List, [], ◌∷◌, Option, None, Some, inl, inr, refl, sym, ◌∙◌, ap, subst, arith}
-use Rattle.std.specs.Prelude.{All}
+use Rattle.std.proofs.Common.{◌≡◌, ◌++◌, ℕ, Bool, List, [], ◌∷◌, Option, None, Some, inl, inr, refl, sym, ◌∙◌, ap, subst, arith}
 use Rattle.nuc_fit.specs.Bounds.{FitsEntry}
 use Rattle.nuc_log.specs.declared.event.Event.{Event}
 use Rattle.nuc_log.specs.declared.event.Event.TheVariants as event
@@ -18,7 +17,7 @@ use Rattle.nuc_script.specs.Lines.{is_begun}
 use Rattle.nuc_script.specs.declared.command.Command.{Command}
 use Rattle.nuc_script.specs.declared.command.Command.TheVariants as command
 use Rattle.nuc_script.proofs.CommandsFit.{every_script_fits}
-use Rattle.nuc_sync.specs.Runs.{Refuses, Runs, StopsAt, goes, stays}
+use Rattle.nuc_sync.specs.Runs.{Refuses, Runs, StopsAt}
 use Rattle.nuc_sync.specs.Tasks.{Task, event_of}
 use Rattle.nuc_sync.proofs.Growing.{runs_longer}
 use Rattle.nuc_transfer.specs.Transfer.{Collision}

@@ -1,5 +1,5 @@
 -- A run in which no call is told to fail: what holds after each task, and after each sync.
-use Rattle.std.proofs.Common.{◌≡◌, ◌==◌, ◌++◌, ℕ, Bool, true, false, cond, List, [], ◌∷◌, inl, inr, refl, sym, ◌∙◌, ap, subst}
+use Rattle.std.proofs.Common.{◌≡◌, ◌==◌, ◌++◌, ℕ, Bool, true, false, cond, List, [], ◌∷◌, inl, inr, sym, ◌∙◌, subst}
 use Rattle.nuc_class.specs.declared.op.Effect.{Effect}
 use Rattle.nuc_class.specs.declared.op.Effect.TheVariants as effect
 use Rattle.nuc_class.specs.declared.op.Op.{Op}
@@ -21,7 +21,7 @@ use Rattle.nuc_world.specs.Runs.Reaches.{stepped}
 use Rattle.nuc_world.specs.Step.{IsStep}
 use Rattle.nuc_world.specs.World.{WorldData}
 use Rattle.nuc_world.proofs.Items.{all_append, all_front, all_none}
-use Rattle.nuc_run.specs.Quiet.{IsMarkedQuiet, MarksAreQuiet}
+use Rattle.nuc_run.specs.Quiet.{MarksAreQuiet}
 use Rattle.nuc_run.proofs.Calm.{IsCalm, step_calm}
 use Rattle.nuc_run.proofs.Entries.{new_or_before}
 

@@ -19,7 +19,7 @@ use Rattle.nuc_run.specs.Quiet.{IsMarkedQuiet, MarksAreQuiet}
 use Rattle.nuc_run.specs.Scripts.{KeepsToLimit}
 use Rattle.nuc_run.proofs.Calm.{its_calm}
 use Rattle.nuc_run.proofs.Entries.{new_or_before}
-use Rattle.nuc_run.proofs.Parted.{Parts, beyond, parted, within}
+use Rattle.nuc_run.proofs.Parted.{beyond, parted, within}
 use Rattle.nuc_run.proofs.QuietSoFar.{ArePlain, IsQuietSoFar, entered, plain_run}
 
 -- THE MARK is the last task of a sync
