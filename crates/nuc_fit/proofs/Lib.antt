@@ -20,7 +20,6 @@ mod NamesFree
 mod NamesKept
 mod NamesLists
 mod NamesLooks
-mod NamesObserved
 mod NamesOps
 mod NamesPaths
 mod NamesPlan
