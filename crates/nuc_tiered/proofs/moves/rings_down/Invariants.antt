@@ -1,0 +1,15 @@
+use Rattle.std.proofs.Common.{◌-◌, ◌≡◌, ◌≤◌, ◌*◌, length}
+use Rattle.std.specs.List.{insert}
+use Rattle.nuc_tiered.specs.Rings.{IsRings, row}
+use Rattle.nuc_tiered.proofs.moves.rings_down.Given as goal
+
+abbrev pub invariant-loop-k : goal.invariant-loop-k
+invariant-loop-k l = record {
+  form : IsRings l.cells l.heads;
+  order : l.to ≤ l.k;
+  within : l.k ≤ length l.heads;
+  row : insert (row l.cells l.heads) (l.k * 512) l.hand ≡ insert (row l.fn.cells l.fn.heads) (l.fn.from * 512) l.fn.hand;
+}
+
+abbrev pub decreases-loop-k : goal.decreases-loop-k
+decreases-loop-k l = l.k - l.to
