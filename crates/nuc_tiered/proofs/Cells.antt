@@ -1,10 +1,12 @@
 -- What stands in the cells, position by position.
-use Rattle.std.proofs.Common.{◌≡◌, ◌≢◌, ◌<◌, ◌≤◌, ◌+◌, ◌*◌, ◌/◌, ◌%◌, ℕ, List, ◌++◌, length, get_or, set, take, refl, sym, ap, subst, ◌∙◌, inl, inr, arith, length-set, length-append, length-take-le}
-use Rattle.std.proofs.lemmas.List.{same_lists, get_or-set_same, get_or-set_other, get_or_append_left, get_or-take}
+use Rattle.std.proofs.Common.{◌≡◌, ◌≢◌, ◌<◌, ◌≤◌, ◌+◌, ◌*◌, ◌/◌, ◌%◌, ℕ, List, ◌++◌, length, get_or, set, take, Some, refl, sym, ap, ap₂, subst, ◌∙◌, inl, inr, arith, length-set, length-append, length-take-le}
+use Rattle.std.proofs.lemmas.List.{same_lists, get_or-set_same, get_or-set_other, get_or_append_left, get_or-take, take_all}
 use Rattle.std.proofs.lemmas.List.FromFn.{length-map-range_with_len, get_or-map-range_with_len}
 use Rattle.std.proofs.lemmas.Bool.{cases_eq}
 use Rattle.std.proofs.lemmas.Nat.{same_from_place}
-use Rattle.nuc_tiered.specs.Rings.{IsRings, cell, row}
+use Rattle.std.specs.Prelude.{slice_get}
+use Rattle.std.proofs.lemmas.Option.{slice_get-get_or}
+use Rattle.nuc_tiered.specs.Rings.{IsRings, IsTiered, cell, row}
 
 pub cell_is : (heads : List ℕ) (p : ℕ) → cell heads p ≡ p / 512 * 512 + (get_or heads (p / 512) 0 + p % 512) % 512
 unfolding cell
@@ -57,3 +59,19 @@ row_grown cells heads rooms more n rings le =
       ∙ ap (λ j. get_or (cells ++ rooms) j 0) place
       ∙ get_or_append_left cells rooms 0 (cell heads k) (cell_within cells heads k rings (omega arith))
       ∙ sym (row_at cells heads k d (omega arith)) ∙ sym (get_or-take n _ k d within))
+
+-- the items
+pub items_length : (cells heads : List ℕ) (n : ℕ) → IsTiered cells heads n → length (take n (row cells heads)) ≡ n
+items_length cells heads n form = let le = form.within in length-take-le n (row cells heads) (omega (arith, row_length cells heads))
+
+pub items_get : (cells heads : List ℕ) (n i : ℕ) → IsTiered cells heads n → i < n → slice_get (take n (row cells heads)) i ≡ Some (get_or cells (cell heads i) 0)
+items_get cells heads n i form lt =
+    let le = form.within in
+    slice_get-get_or (take n (row cells heads)) i 0 (omega (arith, items_length cells heads n form))
+    ∙ ap (λ x. Some x) (get_or-take n (row cells heads) i 0 lt ∙ row_at cells heads i 0 (omega arith))
+
+-- the same by what `resize` leaves
+pub row_resized : (cells heads rooms more : List ℕ) (n a b : ℕ) → IsRings cells heads → n ≤ length cells → length cells ≤ a → length heads ≤ b
+    → take n (row (take a cells ++ rooms) (take b heads ++ more)) ≡ take n (row cells heads)
+row_resized cells heads rooms more n a b rings le long longer =
+    ap₂ (λ x y. take n (row (x ++ rooms) (y ++ more))) (take_all a cells long) (take_all b heads longer) ∙ row_grown cells heads rooms more n rings le

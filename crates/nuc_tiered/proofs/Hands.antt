@@ -1,5 +1,5 @@
 -- A list with one more item in hand, at the position where the hand is.
-use Rattle.std.proofs.Common.{◌≡◌, ◌<◌, ◌≤◌, ◌+◌, ℕ, zero, suc, List, [], ◌∷◌, length, get_or, set, take, Some, refl, sym, ap, subst, ◌∙◌, arith, length-take-le}
+use Rattle.std.proofs.Common.{◌≡◌, ◌<◌, ◌≤◌, ◌+◌, ℕ, zero, suc, List, [], ◌∷◌, length, get_or, set, take, drop, ◌++◌, Some, refl, sym, ap, subst, ◌∙◌, arith, length-take-le}
 use Rattle.std.specs.Prelude.{slice_get}
 use Rattle.std.specs.List.{insert, remove}
 use Rattle.std.proofs.lemmas.List.{take_at}
@@ -54,3 +54,7 @@ module _ (xs ys : List ℕ) (i n x c : ℕ) (le : i ≤ n) (within : suc n ≤ l
 
   pub removed_value : slice_get (take (suc n) xs) i ≡ Some c
   removed_value = ap (λ l. slice_get l i) (taken xs ys i n x c le within same) ∙ get_insert (take n ys) i c fits
+
+-- what a list behind a borrow is afterwards
+pub written : (xs ys : List ℕ) (n : ℕ) → length xs ≡ n → take n (xs ++ drop (length xs) ys) ≡ xs
+written xs ys n long = take_at xs _ n long

@@ -7,7 +7,7 @@ use Rattle.std.proofs.lemmas.Bool.{cases_eq, cases_lt}
 use Rattle.nuc_tiered.specs.Rings.{IsRings, cell, row}
 use Rattle.nuc_tiered.proofs.Cells.{cell_is, cell_within, row_length, row_at}
 
-module _ (cells heads : List ℕ) (k c h at : ℕ) (rings : IsRings cells heads) (lt : k < length heads)
+module _ (cells heads : List ℕ) (k c h at : ℕ) (blocks : length cells ≡ 512 * length heads) (lt : k < length heads)
     (head_is : h ≡ (get_or heads k 0 + 511) % 512) (at_is : at ≡ k * 512 + h) where
   other : (p : ℕ) → p / 512 ≢ k → get_or (set cells at c) (cell (set heads k h) p) 0 ≡ get_or cells (cell heads p) 0
   other p apart =
@@ -20,7 +20,6 @@ module _ (cells heads : List ℕ) (k c h at : ℕ) (rings : IsRings cells heads)
       let block : k * 512 / 512 ≡ k = omega arith in
       let head : get_or (set heads k h) (k * 512 / 512) 0 ≡ h = ap (λ j. get_or (set heads k h) j 0) block ∙ get_or-set_same heads k h 0 lt in
       let place : cell (set heads k h) (k * 512) ≡ at = omega (arith, cell_is (set heads k h) (k * 512)) in
-      let blocks = rings.blocks in
       ap (λ j. get_or (set cells at c) j 0) place ∙ get_or-set_same cells at c 0 (omega arith)
 
   next : (p : ℕ) → p / 512 ≡ k → p % 512 < 511 → get_or (set cells at c) (cell (set heads k h) (p + 1)) 0 ≡ get_or cells (cell heads p) 0
@@ -39,7 +38,7 @@ module _ (cells heads : List ℕ) (k c h at : ℕ) (rings : IsRings cells heads)
       ap (λ j. get_or cells j 0) place
 
   whole : k * 512 + 512 ≤ length cells
-  whole = let blocks = rings.blocks in omega arith
+  whole = omega arith
 
   -- the list with the hand behind the ring, and before that with the hand in front of it
   behind : (q d : ℕ) → q < k * 512 + 512 → get_or (insert (row (set cells at c) (set heads k h)) (k * 512 + 512) (get_or cells at 0)) q d ≡ get_or (set cells at c) (cell (set heads k h) q) 0
@@ -112,15 +111,18 @@ module _ (cells heads : List ℕ) (k c h at : ℕ) (rings : IsRings cells heads)
       ])
 
 -- the same read from its end: the ring is turned back
-pub turned_back : (cells heads : List ℕ) (k c h at : ℕ) → IsRings cells heads → k < length heads → IsRings (set cells at c) (set heads k h)
+pub turned_back : (cells heads : List ℕ) (k c h at : ℕ) → IsRings cells heads → k < length heads
     → h ≡ (get_or heads k 0 + 1) % 512 → at ≡ k * 512 + get_or heads k 0
     → insert (row (set cells at c) (set heads k h)) (k * 512) (get_or cells at 0) ≡ insert (row cells heads) (k * 512 + 512) c
-turned_back cells heads k c h at rings lt turning head_is at_is =
+turned_back cells heads k c h at rings lt head_is at_is =
     let blocks = rings.blocks in
     let low = rings.in_blocks k in
     let head : get_or (set heads k h) k 0 ≡ h = get_or-set_same heads k h 0 lt in
     let there : get_or (set cells at c) at 0 ≡ c = get_or-set_same cells at c 0 (omega arith) in
     let cells_back : set (set cells at c) at (get_or cells at 0) ≡ cells = set-set cells at c (get_or cells at 0) ∙ set-get_or cells at 0 in
     let heads_back : set (set heads k h) k (get_or heads k 0) ≡ heads = set-set heads k h (get_or heads k 0) ∙ set-get_or heads k 0 in
-    let same = turned (set cells at c) (set heads k h) k (get_or cells at 0) (get_or heads k 0) at turning (omega (arith, length-set heads k h)) (omega arith) at_is in
-    sym (sym (ap₂ (λ a b. insert (row a b) (k * 512 + 512) (get_or (set cells at c) at 0)) cells_back heads_back ∙ ap (λ z. insert (row cells heads) (k * 512 + 512) z) there) ∙ same)
+    let long : length (set cells at c) ≡ 512 * length (set heads k h) = omega (arith, length-set cells at c, length-set heads k h) in
+    let same = turned (set cells at c) (set heads k h) k (get_or cells at 0) (get_or heads k 0) at long (omega (arith, length-set heads k h)) (omega arith) at_is in
+    sym same
+    ∙ ap₂ (λ a b. insert (row a b) (k * 512 + 512) (get_or (set cells at c) at 0)) cells_back heads_back
+    ∙ ap (λ z. insert (row cells heads) (k * 512 + 512) z) there
