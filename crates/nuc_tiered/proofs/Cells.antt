@@ -1,9 +1,8 @@
 -- What stands in the cells, position by position.
-use Rattle.std.proofs.Common.{◌≡◌, ◌≢◌, ◌<◌, ◌≤◌, ◌+◌, ◌*◌, ◌/◌, ◌%◌, ℕ, List, ◌++◌, length, get_or, set, take, Some, refl, sym, ap, ap₂, subst, ◌∙◌, inl, inr, arith, length-set, length-append, length-take-le}
+use Rattle.std.proofs.Common.{◌≡◌, ◌<◌, ◌≤◌, ◌+◌, ◌*◌, ◌/◌, ◌%◌, ℕ, List, ◌++◌, length, get_or, set, take, Some, refl, sym, ap, ap₂, subst, ◌∙◌, inl, inr, arith, length-set, length-append, length-take-le}
 use Rattle.std.proofs.lemmas.List.{same_lists, get_or-set_same, get_or-set_other, get_or_append_left, get_or-take, take_all}
 use Rattle.std.proofs.lemmas.List.FromFn.{length-map-range_with_len, get_or-map-range_with_len}
 use Rattle.std.proofs.lemmas.Bool.{cases_eq}
-use Rattle.std.proofs.lemmas.Nat.{same_from_place}
 use Rattle.std.specs.Prelude.{slice_get}
 use Rattle.std.proofs.lemmas.Option.{slice_get-get_or}
 use Rattle.nuc_tiered.specs.Rings.{IsRings, IsTiered, cell, row}
@@ -36,13 +35,13 @@ row_set cells heads p c rings lt =
     let m = length-set cells (cell heads p) c in
     same_lists _ _ (row_length _ heads ∙ m ∙ sym n ∙ sym (length-set _ p c))
     (λ k d h.
-      let within : k < length cells = omega (arith, row_length (set cells (cell heads p) c) heads) in
-      row_at _ heads k d (omega arith) ∙ elim (cases_eq k p) [
-        | inl e ↦ subst (λ j. get_or (set cells (cell heads p) c) (cell heads j) 0 ≡ get_or (set (row cells heads) p c) j d) (sym e)
-            (get_or-set_same cells (cell heads p) c 0 (cell_within cells heads p rings lt) ∙ sym (get_or-set_same (row cells heads) p c d (omega arith)))
-        | inr apart ↦ get_or-set_other cells (cell heads p) (cell heads k) c 0 (λ s. apart (one_cell heads k p s))
-            ∙ sym (row_at cells heads k d within) ∙ sym (get_or-set_other (row cells heads) p k c d apart)
-      ])
+    let within : k < length cells = omega (arith, row_length (set cells (cell heads p) c) heads) in
+    row_at _ heads k d (omega arith) ∙ elim (cases_eq k p) [
+      | inl e ↦ subst (λ j. get_or (set cells (cell heads p) c) (cell heads j) 0 ≡ get_or (set (row cells heads) p c) j d) (sym e)
+          (get_or-set_same cells (cell heads p) c 0 (cell_within cells heads p rings lt) ∙ sym (get_or-set_same (row cells heads) p c d (omega arith)))
+      | inr apart ↦ get_or-set_other cells (cell heads p) (cell heads k) c 0 (λ s. apart (one_cell heads k p s))
+          ∙ sym (row_at cells heads k d within) ∙ sym (get_or-set_other (row cells heads) p k c d apart)
+    ])
 
 -- more room changes no item
 pub row_grown : (cells heads rooms more : List ℕ) (n : ℕ) → IsRings cells heads → n ≤ length cells → take n (row (cells ++ rooms) (heads ++ more)) ≡ take n (row cells heads)
@@ -51,14 +50,14 @@ row_grown cells heads rooms more n rings le =
     let longer = row_length (cells ++ rooms) (heads ++ more) ∙ length-append cells rooms in
     same_lists _ _ (length-take-le n _ (omega arith) ∙ sym (length-take-le n _ (omega arith)))
     (λ k d h.
-      let within : k < n = omega (arith, length-take-le n (row (cells ++ rooms) (heads ++ more)) (omega arith)) in
-      let blocks = rings.blocks in
-      let head = get_or_append_left heads more 0 (k / 512) (omega arith) in
-      let place : cell (heads ++ more) k ≡ cell heads k = omega (arith, cell_is (heads ++ more) k, cell_is heads k) in
-      get_or-take n _ k d within ∙ row_at _ _ k d (omega (arith, length-append cells rooms))
-      ∙ ap (λ j. get_or (cells ++ rooms) j 0) place
-      ∙ get_or_append_left cells rooms 0 (cell heads k) (cell_within cells heads k rings (omega arith))
-      ∙ sym (row_at cells heads k d (omega arith)) ∙ sym (get_or-take n _ k d within))
+    let within : k < n = omega (arith, length-take-le n (row (cells ++ rooms) (heads ++ more)) (omega arith)) in
+    let blocks = rings.blocks in
+    let head = get_or_append_left heads more 0 (k / 512) (omega arith) in
+    let place : cell (heads ++ more) k ≡ cell heads k = omega (arith, cell_is (heads ++ more) k, cell_is heads k) in
+    get_or-take n _ k d within ∙ row_at _ _ k d (omega (arith, length-append cells rooms))
+    ∙ ap (λ j. get_or (cells ++ rooms) j 0) place
+    ∙ get_or_append_left cells rooms 0 (cell heads k) (cell_within cells heads k rings (omega arith))
+    ∙ sym (row_at cells heads k d (omega arith)) ∙ sym (get_or-take n _ k d within))
 
 -- the items
 pub items_length : (cells heads : List ℕ) (n : ℕ) → IsTiered cells heads n → length (take n (row cells heads)) ≡ n

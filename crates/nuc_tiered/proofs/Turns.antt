@@ -1,11 +1,11 @@
 -- A ring that turns by one.
-use Rattle.std.proofs.Common.{◌≡◌, ◌≢◌, ◌<◌, ◌≤◌, ◌+◌, ◌-◌, ◌*◌, ◌/◌, ◌%◌, ℕ, List, length, get_or, set, refl, sym, ap, ap₂, subst, ◌∙◌, inl, inr, arith, length-set}
+use Rattle.std.proofs.Common.{◌≡◌, ◌≢◌, ◌<◌, ◌≤◌, ◌+◌, ◌-◌, ◌*◌, ◌/◌, ◌%◌, ℕ, List, length, get_or, set, sym, ap, ap₂, subst, ◌∙◌, inl, inr, arith, length-set}
 use Rattle.std.specs.List.{insert}
 use Rattle.std.proofs.lemmas.List.{same_lists, set-set, set-get_or, get_or-set_same, get_or-set_other}
 use Rattle.std.proofs.lemmas.List.Edits.{length-insert, get_or-insert_below, get_or-insert_at, get_or-insert_above}
 use Rattle.std.proofs.lemmas.Bool.{cases_eq, cases_lt}
 use Rattle.nuc_tiered.specs.Rings.{IsRings, cell, row}
-use Rattle.nuc_tiered.proofs.Cells.{cell_is, cell_within, row_length, row_at}
+use Rattle.nuc_tiered.proofs.Cells.{cell_is, row_length, row_at}
 
 module _ (cells heads : List ℕ) (k c h at : ℕ) (blocks : length cells ≡ 512 * length heads) (lt : k < length heads)
     (head_is : h ≡ (get_or heads k 0 + 511) % 512) (at_is : at ≡ k * 512 + h) where

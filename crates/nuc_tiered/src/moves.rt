@@ -20,7 +20,13 @@ fn items_up(cells: &mut [usize], heads: &[usize], from: usize, to: usize, mut ha
 }
 
 /// Moves the hand down from one position to another, item by item.
-fn items_down(cells: &mut [usize], heads: &[usize], from: usize, to: usize, mut hand: usize) -> usize
+fn items_down(
+    cells: &mut [usize],
+    heads: &[usize],
+    from: usize,
+    to: usize,
+    mut hand: usize,
+) -> usize
     requires form { IsRings cells.old heads.now }
     requires order { to ≤ from }
     requires within { from ≤ length cells.old }
@@ -37,7 +43,13 @@ fn items_down(cells: &mut [usize], heads: &[usize], from: usize, to: usize, mut 
 }
 
 /// Moves the hand up from the start of one block to that of another, ring by ring.
-fn rings_up(cells: &mut [usize], heads: &mut [usize], from: usize, to: usize, mut hand: usize) -> usize
+fn rings_up(
+    cells: &mut [usize],
+    heads: &mut [usize],
+    from: usize,
+    to: usize,
+    mut hand: usize,
+) -> usize
     requires form { IsRings cells.old heads.old }
     requires order { from ≤ to }
     requires within { to ≤ length heads.old }
@@ -52,7 +64,13 @@ fn rings_up(cells: &mut [usize], heads: &mut [usize], from: usize, to: usize, mu
 }
 
 /// Moves the hand down from the start of one block to that of another, ring by ring.
-fn rings_down(cells: &mut [usize], heads: &mut [usize], from: usize, to: usize, mut hand: usize) -> usize
+fn rings_down(
+    cells: &mut [usize],
+    heads: &mut [usize],
+    from: usize,
+    to: usize,
+    mut hand: usize,
+) -> usize
     requires form { IsRings cells.old heads.old }
     requires order { to ≤ from }
     requires within { from ≤ length heads.old }
@@ -69,7 +87,13 @@ fn rings_down(cells: &mut [usize], heads: &mut [usize], from: usize, to: usize, 
 }
 
 /// Moves the hand up from one position to another. Only at its two ends does that go item by item.
-pub fn move_up(cells: &mut [usize], heads: &mut [usize], from: usize, to: usize, hand: usize) -> usize
+pub fn move_up(
+    cells: &mut [usize],
+    heads: &mut [usize],
+    from: usize,
+    to: usize,
+    hand: usize,
+) -> usize
     requires form { IsRings cells.old heads.old }
     requires order { from ≤ to }
     requires within { to ≤ length cells.old }
@@ -87,7 +111,13 @@ pub fn move_up(cells: &mut [usize], heads: &mut [usize], from: usize, to: usize,
 }
 
 /// Moves the hand down from one position to another. Only at its two ends does that go item by item.
-pub fn move_down(cells: &mut [usize], heads: &mut [usize], from: usize, to: usize, hand: usize) -> usize
+pub fn move_down(
+    cells: &mut [usize],
+    heads: &mut [usize],
+    from: usize,
+    to: usize,
+    hand: usize,
+) -> usize
     requires form { IsRings cells.old heads.old }
     requires order { to ≤ from }
     requires within { from ≤ length cells.old }

@@ -1,5 +1,3 @@
-ghost use Rattle.std.specs.Prelude.{◌≡◌, ◌<◌, length};
-
 use crate::TieredVec;
 use std::alloc::Global;
 use std::process::Abort;
@@ -10,6 +8,7 @@ use std::test::Fail;
 struct Lists {
     plain: Vec<usize>,
     tiered: TieredVec,
+    seed: u64,
 }
 
 impl Lists {
@@ -17,10 +16,21 @@ impl Lists {
         Lists {
             plain: Vec::new(alloc),
             tiered: TieredVec::new(alloc),
+            seed: 1,
         }
     }
 
-    fn insert(&mut self, rt: &impl Abort, i: usize, x: usize) -> Result<(), Fail> {
+    /// A number that looks like chance, below a bound.
+    fn below(&mut self, bound: usize) -> usize {
+        self.seed = self
+            .seed
+            .wrapping_mul(6_364_136_223_846_793_005)
+            .wrapping_add(1_442_695_040_888_963_407);
+        (self.seed >> 33) as usize % bound.max(1)
+    }
+
+    fn insert(&mut self, rt: &impl Abort, i: usize) -> Result<(), Fail> {
+        let x = self.below(1_000_000);
         assert!(rt; i <= self.plain.len() && i <= self.tiered.len());
         self.plain.insert(i, x)?;
         self.tiered.reserve(1)?;
@@ -34,7 +44,7 @@ impl Lists {
         assert_eq!(rt; self.tiered.remove(i), value);
     }
 
-    /// Asks both for every position, and one more.
+    /// Asks both for every position, and for one more.
     fn look(&self, rt: &impl Abort) {
         assert_eq!(rt; self.tiered.len(), self.plain.len());
         for (i, x) in self.plain.iter().enumerate() {
@@ -44,28 +54,67 @@ impl Lists {
     }
 }
 
-/// A number that looks like chance, below a bound.
-fn below(seed: &mut u64, bound: usize) -> usize {
-    *seed = seed
-        .wrapping_mul(6_364_136_223_846_793_005)
-        .wrapping_add(1_442_695_040_888_963_407);
-    (*seed >> 33) as usize % bound.max(1)
+#[test]
+fn moves_items_over_the_borders_of_blocks(rt: HostRuntime) -> Result<(), Fail> {
+    let mut lists = Lists::new(rt.alloc());
+    for i in 0..1_700usize {
+        lists.insert(&rt, i)?;
+    }
+    lists.look(&rt);
+    for i in [
+        0usize, 1, 510, 511, 512, 513, 1_023, 1_024, 1_025, 1_535, 1_536, 1_699, 1_700,
+    ] {
+        lists.insert(&rt, i)?;
+        lists.look(&rt);
+        lists.remove(&rt, i);
+        lists.look(&rt);
+    }
+    Ok(())
 }
 
 #[test]
-fn is_as_a_plain_list(rt: HostRuntime) -> Result<(), Fail> {
+fn answers_as_a_plain_list_after_many_changes(rt: HostRuntime) -> Result<(), Fail> {
     let mut lists = Lists::new(rt.alloc());
-    let mut seed = 1u64;
-    // each row has a size to come to, and then so many exchanges
-    for (size, times) in [(3usize, 9usize), (600, 60), (0, 1), (1_700, 400), (511, 40), (1_100, 90), (0, 1), (2, 5)] {
-        while lists.plain.len() < size {
-            let i = below(&mut seed, lists.plain.len().saturating_add(1));
-            lists.insert(&rt, i, below(&mut seed, usize::MAX))?;
+    for (inserts, removes) in [
+        (3usize, 3usize),
+        (600, 90),
+        (1_400, 300),
+        (100, 1_500),
+        (7, 217),
+        (1_100, 1_100),
+    ] {
+        for _ in 0..inserts {
+            let places = lists.plain.len().saturating_add(1);
+            let i = lists.below(places);
+            lists.insert(&rt, i)?;
         }
-        while lists.plain.len() > size {
-            lists.remove(&rt, below(&mut seed, lists.plain.len()));
+        lists.look(&rt);
+        for _ in 0..removes {
+            let places = lists.plain.len();
+            let i = lists.below(places);
+            lists.remove(&rt, i);
         }
         lists.look(&rt);
     }
+    assert_eq!(rt; lists.tiered.len(), 0);
+    Ok(())
+}
+
+#[test]
+fn reserves(rt: HostRuntime) -> Result<(), Fail> {
+    let mut list = TieredVec::new(rt.alloc());
+    for n in [usize::MAX, usize::MAX - 1_000, usize::MAX / 2] {
+        assert!(rt; list.reserve(n).is_err());
+        assert_eq!(rt; list.len(), 0);
+    }
+    list.reserve(513)?;
+    for x in 0..513usize {
+        list.insert(0, x);
+    }
+    assert!(rt; list.reserve(usize::MAX).is_err());
+    assert_eq!(rt;
+        (list.len(), list.get(0), list.get(512)),
+        (513, Some(512), Some(0))
+    );
     Ok(())
 }

@@ -1,4 +1,4 @@
-use Rattle.std.proofs.Common.{◌≡◌, ◌*◌, length}
+use Rattle.std.proofs.Common.{◌≡◌, ◌*◌}
 use Rattle.std.specs.List.{insert}
 use Rattle.nuc_tiered.specs.Rings.{IsRings, row}
 use Rattle.nuc_tiered.proofs.moves.rings_up.Given as goal

@@ -1,6 +1,6 @@
 use Rattle.std.proofs.Common.{◌≡◌, ◌<◌, ◌+◌, suc, length, get_or, set, sym, ap, ap₂, ◌∙◌, arith}
 use Rattle.std.specs.List.{insert}
-use Rattle.nuc_tiered.specs.Rings.{cell, row}
+use Rattle.nuc_tiered.specs.Rings.{row}
 use Rattle.nuc_tiered.proofs.Hands.{up, down}
 use Rattle.nuc_tiered.proofs.Cells.{row_set, row_at, row_length}
 use Rattle.nuc_tiered.proofs.rings.exchange.Goals as goal

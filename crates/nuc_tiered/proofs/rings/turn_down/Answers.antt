@@ -1,6 +1,6 @@
-use Rattle.std.proofs.Common.{◌≡◌, ◌<◌, ◌*◌, ◌+◌, ◌%◌, length, get_or, set, refl, ap₂, ◌∙◌, arith, length-set}
+use Rattle.std.proofs.Common.{◌*◌, ◌+◌, ◌%◌, get_or, set, refl, ap₂, ◌∙◌}
 use Rattle.std.specs.List.{insert}
-use Rattle.nuc_tiered.specs.Rings.{IsRings, row}
+use Rattle.nuc_tiered.specs.Rings.{row}
 use Rattle.nuc_tiered.proofs.Turns.{turned_back}
 use Rattle.nuc_tiered.proofs.rings.turn_down.Goals as goal
 

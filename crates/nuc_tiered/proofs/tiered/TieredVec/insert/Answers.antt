@@ -16,8 +16,8 @@ returns-clause-items c =
     ap₂ (λ a b. take (n + 1) (row a b)) (written c.move_up.new.cells _ _ (c.move_up.ensures.length ∙ c.deref_mut.ensures.len)) (written c.move_up.new.heads _ _ (omega (arith, c.deref_mut-2.ensures.len)))
     ∙ ap (λ m. take m (row c.move_up.new.cells c.move_up.new.heads)) next
     ∙ inserted (row c.self.inside.cells.items c.self.inside.heads.items) _ c.args.i n c.args.x c.move_up.result le within (
-      ap (λ m. insert (row c.move_up.new.cells c.move_up.new.heads) m c.move_up.result) (sym next)
-      ∙ c.move_up.ensures.row
-      ∙ ap₂ (λ a b. insert (row a b) c.args.i c.args.x) c.deref_mut.ensures.value c.deref_mut-2.ensures.value
+    ap (λ m. insert (row c.move_up.new.cells c.move_up.new.heads) m c.move_up.result) (sym next)
+    ∙ c.move_up.ensures.row
+    ∙ ap₂ (λ a b. insert (row a b) c.args.i c.args.x) c.deref_mut.ensures.value c.deref_mut-2.ensures.value
     )
     ∙ ap (λ l. insert l c.args.i c.args.x) items_are
