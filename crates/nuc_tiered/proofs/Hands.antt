@@ -1,6 +1,5 @@
 -- A list with one more item in hand, at the position where the hand is.
-use Rattle.std.proofs.Common.{◌≡◌, ◌<◌, ◌≤◌, ℕ, zero, suc, List, [], ◌∷◌, length, get_or, set, take, drop, ◌++◌, Some, refl, sym, ap, ◌∙◌, arith, length-take-le}
-use Rattle.std.specs.Prelude.{slice_get}
+use Rattle.std.proofs.Common.{◌≡◌, ◌<◌, ◌≤◌, ℕ, zero, suc, List, [], ◌∷◌, length, get_or, set, take, drop, ◌++◌, refl, sym, ap, ◌∙◌, arith, length-take-le}
 use Rattle.std.specs.List.{insert, remove}
 use Rattle.std.proofs.lemmas.List.{take_at}
 
@@ -17,10 +16,10 @@ down (x ∷ xs) zero c d lt = refl
 down (x ∷ xs) (suc p) c d lt = ap (λ l. x ∷ l) (down xs p c d (omega arith))
 
 -- what is in front of the hand
-pub front : (xs : List ℕ) (n c : ℕ) → n ≤ length xs → take n (insert xs n c) ≡ take n xs
+front : (xs : List ℕ) (n c : ℕ) → n ≤ length xs → take n (insert xs n c) ≡ take n xs
 front xs n c le = take_at _ _ n (length-take-le n xs le)
 
-pub front_more : (xs : List ℕ) (i n c : ℕ) → i ≤ n → take (suc n) (insert xs i c) ≡ insert (take n xs) i c
+front_more : (xs : List ℕ) (i n c : ℕ) → i ≤ n → take (suc n) (insert xs i c) ≡ insert (take n xs) i c
 front_more xs zero n c le = refl
 front_more [] (suc i) zero c le = absurd (omega arith)
 front_more [] (suc i) (suc n) c le = refl
@@ -31,11 +30,6 @@ remove_insert : (xs : List ℕ) (i c : ℕ) → i ≤ length xs → remove (inse
 remove_insert xs zero c le = refl
 remove_insert [] (suc i) c le = absurd (omega arith)
 remove_insert (x ∷ xs) (suc i) c le = ap (λ l. x ∷ l) (remove_insert xs i c (omega arith))
-
-get_insert : (xs : List ℕ) (i c : ℕ) → i ≤ length xs → slice_get (insert xs i c) i ≡ Some c
-get_insert xs zero c le = refl
-get_insert [] (suc i) c le = absurd (omega arith)
-get_insert (x ∷ xs) (suc i) c le = get_insert xs i c (omega arith)
 
 -- the hand went from i to the end of the items
 pub inserted : (xs ys : List ℕ) (i n x c : ℕ) → i ≤ n → suc n ≤ length ys → insert ys (suc n) c ≡ insert xs i x → take (suc n) ys ≡ insert (take n xs) i x
@@ -51,9 +45,6 @@ module _ (xs ys : List ℕ) (i n x c : ℕ) (le : i ≤ n) (within : suc n ≤ l
 
   pub removed : take n ys ≡ remove (take (suc n) xs) i
   removed = sym (ap (λ l. remove l i) (taken xs ys i n x c le within same) ∙ remove_insert (take n ys) i c fits)
-
-  pub removed_value : slice_get (take (suc n) xs) i ≡ Some c
-  removed_value = ap (λ l. slice_get l i) (taken xs ys i n x c le within same) ∙ get_insert (take n ys) i c fits
 
 -- what a list behind a borrow is afterwards
 pub written : (xs ys : List ℕ) (n : ℕ) → length xs ≡ n → take n (xs ++ drop (length xs) ys) ≡ xs

@@ -9,6 +9,13 @@ use Rattle.nuc_tiered.proofs.Cells.{cell_is, row_length, row_at}
 
 module _ (cells heads : List ℕ) (k c h at : ℕ) (blocks : length cells ≡ 512 * length heads) (lt : k < length heads)
     (head_is : h ≡ (get_or heads k 0 + 511) % 512) (at_is : at ≡ k * 512 + h) where
+  -- the list with the hand in front of the ring, and with the hand behind it when that has turned
+  abbrev before : List ℕ
+  before = insert (row cells heads) (k * 512) c
+
+  abbrev after : List ℕ
+  after = insert (row (set cells at c) (set heads k h)) (k * 512 + 512) (get_or cells at 0)
+
   other : (p : ℕ) → p / 512 ≢ k → get_or (set cells at c) (cell (set heads k h) p) 0 ≡ get_or cells (cell heads p) 0
   other p apart =
       let head = get_or-set_other heads k (p / 512) h 0 apart in
@@ -40,55 +47,54 @@ module _ (cells heads : List ℕ) (k c h at : ℕ) (blocks : length cells ≡ 51
   whole : k * 512 + 512 ≤ length cells
   whole = omega arith
 
-  -- the list with the hand behind the ring, and before that with the hand in front of it
-  behind : (q d : ℕ) → q < k * 512 + 512 → get_or (insert (row (set cells at c) (set heads k h)) (k * 512 + 512) (get_or cells at 0)) q d ≡ get_or (set cells at c) (cell (set heads k h) q) 0
+  behind : (q d : ℕ) → q < k * 512 + 512 → get_or after q d ≡ get_or (set cells at c) (cell (set heads k h) q) 0
   behind q d lt =
       let n = row_length (set cells at c) (set heads k h) ∙ length-set cells at c in
       let all = whole in
       get_or-insert_below _ (k * 512 + 512) (get_or cells at 0) d q lt (omega arith) ∙ row_at _ _ q d (omega (arith, length-set cells at c))
 
-  ahead : (q d : ℕ) → k * 512 ≤ q → q < length cells → get_or (insert (row cells heads) (k * 512) c) (q + 1) d ≡ get_or cells (cell heads q) 0
+  ahead : (q d : ℕ) → k * 512 ≤ q → q < length cells → get_or before (q + 1) d ≡ get_or cells (cell heads q) 0
   ahead q d le lt =
       let n = row_length cells heads in
       let all = whole in
       get_or-insert_above _ (k * 512) c d q le (omega arith) ∙ row_at cells heads q d lt
 
-  same_low : (q d : ℕ) → q < k * 512 → get_or (insert (row (set cells at c) (set heads k h)) (k * 512 + 512) (get_or cells at 0)) q d ≡ get_or (insert (row cells heads) (k * 512) c) q d
+  same_low : (q d : ℕ) → q < k * 512 → get_or after q d ≡ get_or before q d
   same_low q d lt =
       let n = row_length cells heads in
       let all = whole in
       behind q d (omega arith) ∙ other q (omega arith) ∙ sym (row_at cells heads q d (omega arith)) ∙ sym (get_or-insert_below _ (k * 512) c d q lt (omega arith))
 
-  same_first : (d : ℕ) → get_or (insert (row (set cells at c) (set heads k h)) (k * 512 + 512) (get_or cells at 0)) (k * 512) d ≡ get_or (insert (row cells heads) (k * 512) c) (k * 512) d
+  same_first : (d : ℕ) → get_or after (k * 512) d ≡ get_or before (k * 512) d
   same_first d =
       let n = row_length cells heads in
       let all = whole in
       behind (k * 512) d (omega arith) ∙ first ∙ sym (get_or-insert_at _ (k * 512) c d (omega arith))
 
-  same_next : (q d : ℕ) → k * 512 ≤ q → q < k * 512 + 511 → get_or (insert (row (set cells at c) (set heads k h)) (k * 512 + 512) (get_or cells at 0)) (q + 1) d ≡ get_or (insert (row cells heads) (k * 512) c) (q + 1) d
+  same_next : (q d : ℕ) → k * 512 ≤ q → q < k * 512 + 511 → get_or after (q + 1) d ≡ get_or before (q + 1) d
   same_next q d le lt = let all = whole in behind (q + 1) d (omega arith) ∙ next q (omega arith) (omega arith) ∙ sym (ahead q d le (omega arith))
 
-  same_last : (d : ℕ) → get_or (insert (row (set cells at c) (set heads k h)) (k * 512 + 512) (get_or cells at 0)) (k * 512 + 512) d ≡ get_or (insert (row cells heads) (k * 512) c) (k * 512 + 512) d
+  same_last : (d : ℕ) → get_or after (k * 512 + 512) d ≡ get_or before (k * 512 + 512) d
   same_last d =
       let n = row_length (set cells at c) (set heads k h) ∙ length-set cells at c in
       let all = whole in
       let up : k * 512 + 511 + 1 ≡ k * 512 + 512 = omega arith in
       get_or-insert_at _ (k * 512 + 512) (get_or cells at 0) d (omega arith)
-      ∙ sym (ap (λ j. get_or (insert (row cells heads) (k * 512) c) j d) (sym up) ∙ ahead (k * 512 + 511) d (omega arith) (omega arith) ∙ last)
+      ∙ sym (ap (λ j. get_or before j d) (sym up) ∙ ahead (k * 512 + 511) d (omega arith) (omega arith) ∙ last)
 
-  same_high : (q d : ℕ) → k * 512 + 512 ≤ q → q < length cells → get_or (insert (row (set cells at c) (set heads k h)) (k * 512 + 512) (get_or cells at 0)) (q + 1) d ≡ get_or (insert (row cells heads) (k * 512) c) (q + 1) d
+  same_high : (q d : ℕ) → k * 512 + 512 ≤ q → q < length cells → get_or after (q + 1) d ≡ get_or before (q + 1) d
   same_high q d le lt =
       let n = row_length (set cells at c) (set heads k h) ∙ length-set cells at c in
       get_or-insert_above _ (k * 512 + 512) (get_or cells at 0) d q le (omega arith) ∙ row_at _ _ q d (omega (arith, length-set cells at c))
       ∙ other q (omega arith) ∙ sym (ahead q d (omega arith) lt)
 
-  same_above : (q d : ℕ) → k * 512 ≤ q → q < length cells → get_or (insert (row (set cells at c) (set heads k h)) (k * 512 + 512) (get_or cells at 0)) (q + 1) d ≡ get_or (insert (row cells heads) (k * 512) c) (q + 1) d
+  same_above : (q d : ℕ) → k * 512 ≤ q → q < length cells → get_or after (q + 1) d ≡ get_or before (q + 1) d
   same_above q d le lt = elim (cases_lt q (k * 512 + 511)) [
     | inl low ↦ same_next q d le low
     | inr high ↦ elim (cases_eq q (k * 512 + 511)) [
       | inl e ↦
           let up : q + 1 ≡ k * 512 + 512 = omega arith in
-          subst (λ j. get_or (insert (row (set cells at c) (set heads k h)) (k * 512 + 512) (get_or cells at 0)) j d ≡ get_or (insert (row cells heads) (k * 512) c) j d) (sym up) (same_last d)
+          subst (λ j. get_or after j d ≡ get_or before j d) (sym up) (same_last d)
       | inr apart ↦ same_high q d (omega arith) lt
     ]
   ]
@@ -103,10 +109,10 @@ module _ (cells heads : List ℕ) (k c h at : ℕ) (blocks : length cells ≡ 51
       same_lists _ _ (longer ∙ ap (λ j. j + 1) (m ∙ sym n) ∙ sym long) (λ q d lt. elim (cases_lt q (k * 512)) [
         | inl low ↦ same_low q d low
         | inr high ↦ elim (cases_eq q (k * 512)) [
-          | inl e ↦ subst (λ j. get_or (insert (row (set cells at c) (set heads k h)) (k * 512 + 512) (get_or cells at 0)) j d ≡ get_or (insert (row cells heads) (k * 512) c) j d) (sym e) (same_first d)
+          | inl e ↦ subst (λ j. get_or after j d ≡ get_or before j d) (sym e) (same_first d)
           | inr apart ↦
               let up : q - 1 + 1 ≡ q = omega arith in
-              subst (λ j. get_or (insert (row (set cells at c) (set heads k h)) (k * 512 + 512) (get_or cells at 0)) j d ≡ get_or (insert (row cells heads) (k * 512) c) j d) up (same_above (q - 1) d (omega arith) (omega arith))
+              subst (λ j. get_or after j d ≡ get_or before j d) up (same_above (q - 1) d (omega arith) (omega arith))
         ]
       ])
 

@@ -4,7 +4,7 @@ ghost use Rattle.nuc_tiered.specs.Rings.{AreHeads, IsRings, cell, row};
 
 use std::mem;
 
-/// The items of a block.
+/// How many items a block has.
 pub const BLOCK: usize = 512;
 
 /// The cell in which the item at a position stands.

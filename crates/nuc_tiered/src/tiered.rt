@@ -6,8 +6,9 @@ use crate::rings::{BLOCK, cell_of};
 use std::alloc::{AllocError, Global};
 use std::marker::Model;
 
-/// A list of numbers in blocks of 512, each a ring that starts at its own head. Reading takes constant time. An insert or a
-/// remove moves at most the items of two blocks by one, and one item and the head of each block between them and the end.
+/// A list of numbers in blocks of 512, each a ring that starts at its own head. Reading takes constant time. An insert or
+/// a remove moves by one the items behind it in its block and those of the last block, and of each block between them no
+/// more than one item and the head.
 #[derive(Debug, Drop)]
 pub struct TieredVec {
     cells: Vec<usize>,
@@ -58,7 +59,8 @@ impl TieredVec {
         Some(self.cells[cell_of(&self.heads, i)])
     }
 
-    /// Makes room for that many more items, in whole blocks, which are filled at once. Where the room is there it can't fail.
+    /// Makes room for that many more items, in whole blocks. Where the room is there it can't fail; an error says that there is
+    /// no memory.
     pub fn reserve(&mut self, n: usize) -> Result<(), AllocError>
         ensures ok { OnOk result (n ≤ self.new.spare) }
         ensures items { self.new.items ≡ self.old.items }
@@ -80,7 +82,7 @@ impl TieredVec {
         Ok(())
     }
 
-    /// Puts an item in at a position. The room is there. It takes time in the number of blocks behind the position.
+    /// Puts an item in at a position. The room is there, so it takes no memory.
     pub fn insert(&mut self, i: usize, x: usize)
         requires within { i ≤ length self.old.items }
         requires room { 0 < self.old.spare }
@@ -91,7 +93,7 @@ impl TieredVec {
         move_up(&mut self.cells, &mut self.heads, i, self.len, x);
     }
 
-    /// Takes the item at a position out, and hands it over. It takes time as `insert` does.
+    /// Takes the item at a position out, and hands it over. Its room is spare then.
     pub fn remove(&mut self, i: usize) -> usize
         requires within { i < length self.old.items }
         ensures value { slice_get self.old.items i ≡ Some result }
