@@ -1,10 +1,8 @@
 -- The children of an identity are the rows with that parent, and these stand together.
-use Rattle.std.proofs.Common.{◌≡◌, ◌≢◌, ◌<◌, ◌≤◌, ℕ, zero, suc, Bool, true, false, cond, ltb, ltb-true, ltb-false, List, [], ◌∷◌, map, drop, length, get_or, Option, Some, None, MatchBool, is_some, option_map, refl, sym, ap, subst, ◌∙◌, inl, inr, arith}
-use Rattle.std.specs.Prelude.{◌==◌, slice_get}
+use Rattle.std.proofs.Common.{◌≡◌, ◌≢◌, ◌<◌, ◌≤◌, ℕ, zero, suc, Bool, true, false, cond, List, [], ◌∷◌, map, get_or, Option, Some, None, MatchBool, is_some, option_map, refl, sym, ap, subst, ◌∙◌, inl, inr, arith}
+use Rattle.std.specs.Prelude.{◌+◌, ◌==◌, slice_get}
 use Rattle.std.specs.Cmp.{nat_cmp_is}
-use Rattle.std.specs.List.{filter, AllByRecursion, AllWithin}
-use Rattle.std.specs.List.Sorted.{IsPartitionedBy, IsPartitionPoint}
-use Rattle.std.proofs.lemmas.List.Sorted.{IsPartitionedBy-ltb}
+use Rattle.std.specs.List.{filter, AllByRecursion}
 use Rattle.std.specs.Ordering.{nat_cmp, ordering_then}
 use Rattle.std.specs.declared.cmp.Ordering.TheVariants.{Less, Equal, Greater}
 use Rattle.std.proofs.lemmas.Bool.Decides.{eqb_tells}
@@ -15,11 +13,11 @@ use Rattle.nuc_base.specs.declared.node.NodeId.{NodeId}
 use Rattle.nuc_base.proofs.Children.{child_of, child_there, child_within, child_rises}
 use Rattle.nuc_base.proofs.Maps.{same_or_not}
 use Rattle.nuc_index.specs.Rows.{Rises, IsIn, Holds}
-use Rattle.nuc_index.specs.Siblings.{sibling_order, IsRisingByParent, child_rows, id_below, IsRow}
+use Rattle.nuc_index.specs.Siblings.{sibling_order, IsRisingByParent, IsRowAt, IsRowGap, child_rows, id_below, IsRow}
 use Rattle.nuc_index.specs.declared.sibling.Sibling.{Sibling}
-use Rattle.nuc_index.proofs.Rows.{all_kept, all_in, at_in}
-use Rattle.nuc_index.proofs.Search.{all_from, index_along}
-use Rattle.nuc_index.proofs.Siblings.{row_of}
+use Rattle.nuc_index.proofs.Rows.{all_kept, all_in, at_in, found}
+use Rattle.nuc_index.proofs.Search.{all_from}
+use Rattle.nuc_index.proofs.Siblings.{row_of, tied_row}
 
 -- two rising lists with the same elements are one
 
@@ -160,32 +158,52 @@ module _ (x : ℕ) where
         ap (λ l. slice_get l i) (none_kept (r ∷ rs) (first, later)) ∙ sym (none_picked (r ∷ rs) i (first, later))
   ]
 
-  rows_past : (rs : List Sibling) (k : ℕ) → AllWithin (λ r. (r.parent.0 < x)) rs 0 k → child_rows x rs ≡ child_rows x (drop k rs)
-  rows_past [] zero all = refl
-  rows_past [] (suc k) all = refl
-  rows_past (r ∷ rs) zero all = refl
-  rows_past (r ∷ rs) (suc k) all =
-      rows_without r rs (λ e. absurd (let lt = all 0 r (omega arith) (omega arith) in omega arith))
-      ∙ rows_past rs k (λ j d a b. all (suc j) d (omega arith) (omega arith))
+  -- where the row of identity 0 would stand
 
-  rises_past : (rs : List Sibling) (k : ℕ) → IsRisingByParent rs → IsRisingByParent (drop k rs)
-  rises_past [] zero r = tt
-  rises_past [] (suc k) r = tt
-  rises_past (s ∷ rs) zero r = r
-  rises_past (s ∷ rs) (suc k) r = rises_past rs k r.1
+  abbrev first : Sibling
+  first = row_of x 0
 
-  all_past : (rs : List Sibling) (k : ℕ) → AllWithin (λ r. x ≤ r.parent.0) rs k (length rs) → AllByRecursion (λ r. x ≤ r.parent.0) (drop k rs)
-  all_past [] zero all = tt
-  all_past [] (suc k) all = tt
-  all_past (r ∷ rs) zero all = all_from (λ s. x ≤ s.parent.0) (r ∷ rs) (λ j d lt. all j d (omega arith) lt)
-  all_past (r ∷ rs) (suc k) all = all_past rs k (λ j d a b. all (suc j) d (omega arith) (omega arith))
+  below_first : (r : Sibling) → sibling_order r first ≡ Less → r.parent.0 < x
+  below_first r less = elim (nat_cmp r.parent.0 x) as (λ o. o ≡ nat_cmp r.parent.0 x → ordering_then o (nat_cmp r.id.0 0) ≡ Less → r.parent.0 < x) [
+    | Less ↦ λ o e. ranked r.parent.0 x Less o
+    | Equal ↦ λ o e. absurd (let lt : r.id.0 < 0 = ranked r.id.0 0 Less (sym e) in omega arith)
+    | Greater ↦ λ o e. absurd (let f : Greater ≡ Less = e in cc)
+  ] refl less
 
-  pub picked : (rs : List Sibling) (k i : ℕ) → IsRisingByParent rs → (IsPartitionedBy (λ r. ltb r.parent.0 x) rs → IsPartitionPoint (λ r. ltb r.parent.0 x ≡ true) (λ r. ltb r.parent.0 x ≡ false) rs k)
-      → slice_get (child_rows x rs) i ≡ id_below x (slice_get (drop k rs) i)
-  picked rs k i rise point =
-      let parts = point (IsPartitionedBy-ltb (λ r. r.parent.0) rs x (index_along sibling_order (λ r. r.parent.0) up_by_parent rs rise)) in
-      ap (λ l. slice_get l i) (rows_past rs k (λ j d a b. ltb-true _ x (parts.0 j d a b)))
-      ∙ picked_from (drop k rs) i (rises_past rs k rise) (all_past rs k (λ j d a b. ltb-false _ x (parts.1 j d a b)))
+  from_first : (r : Sibling) → sibling_order r first ≡ Greater → x ≤ r.parent.0
+  from_first r more = elim (nat_cmp r.parent.0 x) as (λ o. o ≡ nat_cmp r.parent.0 x → ordering_then o (nat_cmp r.id.0 0) ≡ Greater → x ≤ r.parent.0) [
+    | Less ↦ λ o e. absurd (let f : Less ≡ Greater = e in cc)
+    | Equal ↦ λ o e. let eq = ranked r.parent.0 x Equal o in omega arith
+    | Greater ↦ λ o e. let lt = ranked r.parent.0 x Greater o in omega arith
+  ] refl more
+
+  below_is : (r : Sibling) (rs : List Sibling) (k i : ℕ) → sibling_order r first ≡ Less → slice_get (child_rows x rs) i ≡ id_below x (slice_get rs (i + k))
+      → slice_get (child_rows x (r ∷ rs)) i ≡ id_below x (slice_get (r ∷ rs) (i + suc k))
+  below_is r rs k i less rest =
+      let later : suc (i + k) ≡ i + suc k = omega arith in
+      ap (λ l. slice_get l i) (rows_without r rs (λ e. absurd (let lt = below_first r less in omega arith))) ∙ rest
+      ∙ ap (λ j. id_below x (slice_get (r ∷ rs) j)) later
+
+  at_start : (rs : List Sibling) (i : ℕ) → slice_get (child_rows x rs) i ≡ id_below x (slice_get rs i) → slice_get (child_rows x rs) i ≡ id_below x (slice_get rs (i + 0))
+  at_start rs i e = let same : i ≡ i + 0 = omega arith in subst (λ j. slice_get (child_rows x rs) i ≡ id_below x (slice_get rs j)) same e
+
+  pub picked_gap : (rs : List Sibling) (k i : ℕ) → IsRisingByParent rs → IsRowGap first rs k → slice_get (child_rows x rs) i ≡ id_below x (slice_get rs (i + k))
+  picked_gap [] k i rise gap = refl
+  picked_gap (r ∷ rs) zero i rise gap = at_start (r ∷ rs) i
+      (picked_from (r ∷ rs) i rise (all_kept (λ s. sibling_order s first ≡ Greater) (λ s. x ≤ s.parent.0) (r ∷ rs) (λ s h more. from_first s more) gap))
+  picked_gap (r ∷ rs) (suc k) i rise gap = below_is r rs k i gap.0 (picked_gap rs k i rise.1 gap.1)
+
+  pub picked_at : (rs : List Sibling) (k i : ℕ) → IsRisingByParent rs → IsRowAt first rs k → slice_get (child_rows x rs) i ≡ id_below x (slice_get rs (i + k))
+  picked_at [] k i rise at = absurd at
+  picked_at (r ∷ rs) zero i rise at =
+      let own : r ≡ first = tied_row r first at in
+      let same : r.parent.0 ≡ x = ap (λ s. s.parent.0) own in
+      let later = all_kept (λ s. sibling_order r s ≡ Less) (λ s. x ≤ s.parent.0) rs (λ s h less. let le = up_by_parent r s less in omega arith) rise.0 in
+      at_start (r ∷ rs) i (picked_from (r ∷ rs) i rise ((omega arith), later))
+  picked_at (r ∷ rs) (suc k) i rise at =
+      let s = found (λ s. sibling_order s first) rs k at in
+      let less : sibling_order r s.0 ≡ Less = all_in (λ s. sibling_order r s ≡ Less) rs s.0 rise.0 (at_in rs k s.0 s.1) in
+      below_is r rs k i (subst (λ t. sibling_order r t ≡ Less) (tied_row s.0 first s.2) less) (picked_at rs k i rise.1 at)
 
 -- whether there is a first child tells whether there is one
 first_tells : (m : Nodes) (x : ℕ) (o : Option NodeId) → option_map (λ z. z.0) o ≡ slice_get (children m x) 0 → MatchBool (is_some o) (HasChild m x) (NoChild m x)
@@ -196,7 +214,7 @@ first_tells m x None e = λ y n there parent.
 first_tells m x (Some z) e = let child = child_there m x 0 z.0 (sym e) in (z.0, child.0, child.1, child.2)
 
 -- and so the first of the rows does
-pub first_row_tells : (m k : Nodes) (x : ℕ) (o : Option NodeId) (rs s : List Sibling) → m ≡ k → s ≡ rs → IsRisingByParent rs → Holds (IsRow m) rs
-    → option_map (λ z. z.0) o ≡ slice_get (child_rows x s) 0 → MatchBool (is_some o) (HasChild k x) (NoChild k x)
-first_row_tells m k x o rs s view same rise holds e = subst (λ l. MatchBool (is_some o) (HasChild l x) (NoChild l x)) view
-    (first_tells m x o (e ∙ ap (λ l. slice_get (child_rows x l) 0) same ∙ ap (λ l. slice_get l 0) (sym (children_are x m rs rise holds))))
+pub first_row_tells : (m k : Nodes) (x : ℕ) (o : Option NodeId) (rs : List Sibling) → m ≡ k → IsRisingByParent rs → Holds (IsRow m) rs
+    → option_map (λ z. z.0) o ≡ slice_get (child_rows x rs) 0 → MatchBool (is_some o) (HasChild k x) (NoChild k x)
+first_row_tells m k x o rs view rise holds e = subst (λ l. MatchBool (is_some o) (HasChild l x) (NoChild l x)) view
+    (first_tells m x o (e ∙ ap (λ l. slice_get l 0) (sym (children_are x m rs rise holds))))

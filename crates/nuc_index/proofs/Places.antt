@@ -23,7 +23,7 @@ use Rattle.nuc_index.specs.Places.{place_order, place_of, to_place, by_place, Is
 use Rattle.nuc_index.proofs.Rows.{at_in, found, out_of_gap, tied_one, rises_alike, rises_insert, rises_remove, holds_insert, holds_remove}
 use Rattle.nuc_index.proofs.Search.{index_rises, turned}
 
-place_total : IsTotalOrder place_order
+pub place_total : IsTotalOrder place_order
 place_total = then_total (on_total (λ (p : Place). p.parent.0) nat_cmp_total) (on_total (λ (p : Place). p.name) name_order-total)
 
 pub key_total : IsTotalOrder (option_cmp place_order)
@@ -49,7 +49,7 @@ order_of_same p q s =
     ap (λ o. ordering_then o (name_order p.name q.name)) first ∙ same_name-order p.name q.name s.name
 
 -- the node of an identity has the place just where the two compare as equal
-stands_of : (m : Nodes) (p : Place) (x : ℕ) (o : Option Node) → get m x ≡ o → to_place o p ≡ Equal → StandsAt m x p
+pub stands_of : (m : Nodes) (p : Place) (x : ℕ) (o : Option Node) → get m x ≡ o → to_place o p ≡ Equal → StandsAt m x p
 stands_of m p x None there e = absurd (let f : Less ≡ Equal = e in cc)
 stands_of m p x (Some n) there e = (n, there, same_of_order n.place p e)
 

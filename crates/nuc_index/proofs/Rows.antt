@@ -52,14 +52,14 @@ module _ {A : Type 0} where
   insert_in (z ∷ zs) (suc i) x y (inr (inl e)) = inl e
   insert_in (z ∷ zs) (suc i) x y (inr (inr h)) = inr (insert_in zs i x y (inr h))
 
-  in_remove : (xs : List A) (i : ℕ) (y : A) → IsIn y (remove xs i) → IsIn y xs
+  pub in_remove : (xs : List A) (i : ℕ) (y : A) → IsIn y (remove xs i) → IsIn y xs
   in_remove [] zero y h = h
   in_remove [] (suc i) y h = h
   in_remove (z ∷ zs) zero y h = inr h
   in_remove (z ∷ zs) (suc i) y (inl e) = inl e
   in_remove (z ∷ zs) (suc i) y (inr h) = inr (in_remove zs i y h)
 
-  remove_in : (xs : List A) (i : ℕ) (x y : A) → slice_get xs i ≡ Some x → IsIn y xs → (x ≡ y) ⊎ IsIn y (remove xs i)
+  pub remove_in : (xs : List A) (i : ℕ) (x y : A) → slice_get xs i ≡ Some x → IsIn y xs → (x ≡ y) ⊎ IsIn y (remove xs i)
   remove_in [] i x y g h = absurd h
   remove_in (z ∷ zs) zero x y g (inl e) = inl ((let f : Some z ≡ Some x = g in let s : x ≡ z = cc in s) ∙ e)
   remove_in (z ∷ zs) zero x y g (inr h) = inr h
@@ -138,7 +138,7 @@ module _ {A : Type 0} (cmp : A → A → Ordering) where
       let less : cmp y x ≡ Less = subst (λ w. cmp w x ≡ Less) t (all_in (λ w. cmp z w ≡ Less) zs x r.0 h) in absurd (let both : Less ≡ Equal = sym less ∙ f in cc)
   tied_one (z ∷ zs) x y r (inr h) (inr k) e f = tied_one zs x y r.1 h k e f
 
-  removed_out : (xs : List A) (i : ℕ) (x : A) → cmp x x ≡ Equal → Rises cmp xs → slice_get xs i ≡ Some x → ¬ (IsIn x (remove xs i))
+  pub removed_out : (xs : List A) (i : ℕ) (x : A) → cmp x x ≡ Equal → Rises cmp xs → slice_get xs i ≡ Some x → ¬ (IsIn x (remove xs i))
   removed_out [] i x self r g h = absurd (let f : None ≡ Some x = g in cc)
   removed_out (y ∷ ys) zero x self r g h =
       let f : Some y ≡ Some x = g in

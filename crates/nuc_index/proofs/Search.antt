@@ -1,12 +1,14 @@
 -- What a binary search over a list in an order finds.
-use Rattle.std.proofs.Common.{◌≡◌, ◌<◌, ◌≤◌, ℕ, zero, suc, List, [], ◌∷◌, length, get_or, refl, sym, ap, ◌∙◌, arith, Result, Ok, Err, MatchResult}
+use Rattle.std.proofs.Common.{◌≡◌, ◌<◌, ◌≤◌, ℕ, zero, suc, List, [], ◌∷◌, length, get_or, Some, None, refl, sym, ap, subst, ◌∙◌, arith}
+use Rattle.std.specs.Prelude.{slice_get}
 use Rattle.std.specs.Cmp.{IsTotalOrder}
-use Rattle.std.specs.List.{AllWithin, HoldsAt, AllByRecursion}
-use Rattle.std.specs.List.Sorted.{IsBinarySearchResult, IsSearchInRange, IsNonDecreasingBy}
+use Rattle.std.specs.List.{AllWithin, AllByRecursion}
+use Rattle.std.specs.List.Sorted.{IsNonDecreasingBy}
 use Rattle.std.specs.Ordering.{ordering_index, ordering_reverse}
 use Rattle.std.specs.declared.cmp.Ordering.{Ordering}
 use Rattle.std.specs.declared.cmp.Ordering.TheVariants.{Less, Equal, Greater}
 use Rattle.std.proofs.lemmas.Cmp.{alike_right}
+use Rattle.std.proofs.lemmas.Option.{get_or_from_slice_get, slice_get_within}
 use Rattle.nuc_index.specs.Rows.{Rises, IsAt, IsGap}
 
 module _ {K : Type 0} {R : K → K → Ordering} (total : IsTotalOrder R) (a b k : K) (less : R a b ≡ Less) where
@@ -27,6 +29,16 @@ module _ {K : Type 0} {R : K → K → Ordering} (total : IsTotalOrder R) (a b k
 pub turned : {K : Type 0} {R : K → K → Ordering} → IsTotalOrder R → (x y : K) → R y x ≡ Greater → R x y ≡ Less
 turned total x y more = total.antisymm x y ∙ ap ordering_reverse more
 
+is_less : (o : Ordering) → ordering_index o ≤ ordering_index Less → o ≡ Less
+is_less Less le = refl
+is_less Equal le = absurd (omega arith)
+is_less Greater le = absurd (omega arith)
+
+is_greater : (o : Ordering) → ordering_index Greater ≤ ordering_index o → o ≡ Greater
+is_greater Less le = absurd (omega arith)
+is_greater Equal le = absurd (omega arith)
+is_greater Greater le = refl
+
 module _ {A : Type 0} where
   all_at : (P : A → Type 0) (xs : List A) (j : ℕ) (d : A) → AllByRecursion P xs → j < length xs → P (get_or xs j d)
   all_at P [] j d all lt = absurd (omega arith)
@@ -44,12 +56,7 @@ module _ {A : Type 0} where
   index_along cmp n up (x ∷ xs) r (suc i) zero d le within = absurd (omega arith)
   index_along cmp n up (x ∷ xs) r (suc i) (suc j) d le within = index_along cmp n up xs r.1 i j d (omega arith) (omega arith)
 
-  found_at : (to : A → Ordering) (xs : List A) (i : ℕ) → i < length xs → HoldsAt (λ y. to y ≡ Equal) xs i → IsAt to xs i
-  found_at to [] i lt h = absurd (omega arith)
-  found_at to (x ∷ xs) zero lt h = h x
-  found_at to (x ∷ xs) (suc i) lt h = found_at to xs i (omega arith) h
-
-  gap_at : (to : A → Ordering) (xs : List A) (i : ℕ) → i ≤ length xs → AllWithin (λ y. to y ≡ Less) xs 0 i
+  pub gap_at : (to : A → Ordering) (xs : List A) (i : ℕ) → i ≤ length xs → AllWithin (λ y. to y ≡ Less) xs 0 i
       → AllWithin (λ y. to y ≡ Greater) xs i (length xs) → IsGap to xs i
   gap_at to [] i le less more = omega arith
   gap_at to (x ∷ xs) zero le less more = all_from (λ y. to y ≡ Greater) (x ∷ xs) (λ k d lt. more k d (omega arith) lt)
@@ -58,8 +65,24 @@ module _ {A : Type 0} where
     gap_at to xs i (omega arith) (λ k d a b. less (suc k) d (omega arith) (omega arith)) (λ k d a b. more (suc k) d (omega arith) (omega arith)),
   )
 
-  -- `cmp` orders the list, and how an element compares with what is looked for rises along it
-  pub searched : (cmp : A → A → Ordering) (to : A → Ordering) → ((x y : A) → cmp x y ≡ Less → ordering_index (to x) ≤ ordering_index (to y))
-      → (xs : List A) (r : Result ℕ ℕ) → Rises cmp xs → IsSearchInRange r (length xs) → IsBinarySearchResult to xs r → MatchResult r (IsAt to xs) (IsGap to xs)
-  searched cmp to up xs (Ok i) rise within h = found_at to xs i within h
-  searched cmp to up xs (Err i) rise within h = let parts = h (index_along cmp (λ y. ordering_index (to y)) up xs rise) in gap_at to xs i within parts.0 parts.1
+  -- what stands at a position is at it
+  pub found_at : (to : A → Ordering) (xs : List A) (i : ℕ) (x : A) → slice_get xs i ≡ Some x → to x ≡ Equal → IsAt to xs i
+  found_at to [] i x g e = absurd (let f : None ≡ Some x = g in cc)
+  found_at to (y ∷ ys) zero x g e = let f : Some y ≡ Some x = g in let s : y ≡ x = cc in ap to s ∙ e
+  found_at to (y ∷ ys) (suc i) x g e = found_at to ys i x g e
+
+  read_at : (xs : List A) (i : ℕ) (x d : A) → slice_get xs i ≡ Some x → get_or xs i d ≡ x
+  read_at xs i x d g = get_or_from_slice_get xs i x d g
+
+  -- halving: what is looked for comes after what is less, and all up to there are less
+  pub less_up_to : (to : A → Ordering) (xs : List A) (i : ℕ) (x : A) → IsNonDecreasingBy (λ y. ordering_index (to y)) xs → slice_get xs i ≡ Some x → to x ≡ Less
+      → AllWithin (λ y. to y ≡ Less) xs 0 (suc i)
+  less_up_to to xs i x rise g e k d a b =
+      let up = rise k i d (omega arith) (slice_get_within xs i x g) in
+      is_less (to (get_or xs k d)) (subst (λ o. ordering_index (to (get_or xs k d)) ≤ ordering_index o) (ap to (read_at xs i x d g) ∙ e) up)
+
+  pub more_from : (to : A → Ordering) (xs : List A) (i : ℕ) (x : A) → IsNonDecreasingBy (λ y. ordering_index (to y)) xs → slice_get xs i ≡ Some x → to x ≡ Greater
+      → AllWithin (λ y. to y ≡ Greater) xs i (length xs)
+  more_from to xs i x rise g e k d a b =
+      let up = rise i k d (omega arith) b in
+      is_greater (to (get_or xs k d)) (subst (λ o. ordering_index o ≤ ordering_index (to (get_or xs k d))) (ap to (read_at xs i x d g) ∙ e) up)

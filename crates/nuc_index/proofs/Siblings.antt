@@ -35,7 +35,7 @@ one_row Less b r s p q e = absurd (let f : Less ≡ Equal = e in cc)
 one_row Equal b r s p q e = same_row r s (ranked _ _ Equal p) (ranked _ _ Equal (sym e ∙ q))
 one_row Greater b r s p q e = absurd (let f : Greater ≡ Equal = e in cc)
 
-tied_row : (r s : Sibling) → sibling_order r s ≡ Equal → r ≡ s
+pub tied_row : (r s : Sibling) → sibling_order r s ≡ Equal → r ≡ s
 tied_row r s e = one_row _ _ r s refl refl e
 
 module _ (rs : List Sibling) (rise : IsRisingByParent rs) where

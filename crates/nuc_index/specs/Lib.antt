@@ -3,3 +3,4 @@ pub mod Indexes
 pub mod Places
 pub mod Rows
 pub mod Siblings
+pub mod Slots

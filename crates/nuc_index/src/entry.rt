@@ -1,10 +1,12 @@
-ghost use Rattle.std.specs.Prelude.{◌≡◌, ◌<◌, ◌≤◌, length, MatchResult, option_copied};
+ghost use Rattle.std.specs.Prelude.{◌≡◌, ◌<◌, ◌≤◌, length, slice_get, MatchResult, option_copied};
 ghost use Rattle.std.specs.FinMap as map;
-ghost use Rattle.std.specs.Ordering.{nat_cmp};
 ghost use Rattle.nuc_index.specs.Entries.{IsRising, IsEntryAt, IsEntryGap, nodes_of};
+ghost use Rattle.nuc_index.specs.Slots.{AreFull, entries_in, ids_in};
 
+use crate::sought::{Sought, position};
 use nuc_base::{Node, NodeId};
-use std::cmp::Ordering;
+use nuc_tiered::TieredVec;
+use slab::Slab;
 
 /// A node and whose it is.
 #[derive(Debug, Drop)]
@@ -13,26 +15,38 @@ pub struct Entry {
     pub node: Node,
 }
 
-/// Where the entry of `id` stands, or else where it would. A binary search.
-pub fn entry_position(entries: &[Entry], id: NodeId) -> Result<usize, usize>
-    requires { IsRising entries.now }
-    ensures place { MatchResult result (IsEntryAt id.0 entries.now) (IsEntryGap id.0 entries.now) }
-    ensures bound { MatchResult result (λ i. i < length entries.now) (λ i. i ≤ length entries.now) }
+/// Where the slot of `id` stands in the list by identity, or else where it would.
+pub fn entry_position(ids: &TieredVec, entries: &Slab<Entry>, id: NodeId) -> Result<usize, usize>
+    requires full { AreFull entries.now ids.now.items }
+    requires rise { IsRising (entries_in entries.now ids.now.items) }
+    ensures place { MatchResult result (IsEntryAt id.0 (entries_in entries.now ids.now.items)) (IsEntryGap id.0 (entries_in entries.now ids.now.items)) }
+    ensures bound { MatchResult result (λ i. i < length ids.now.items) (λ i. i ≤ length ids.now.items) }
 {
-    entries.binary_search_by(
-        |entry: &Entry| -> Ordering
-            ensures { result ≡ nat_cmp entry.now.id.0 id.0 }
-        { entry.id.0.cmp(&id.0) },
-    )
+    position(ids, entries, Sought::Id(id))
 }
 
 /// The node of `id`.
-pub fn node_of(entries: &[Entry], id: NodeId) -> Option<&Node>
-    requires { IsRising entries.now }
-    ensures { option_copied result ≡ map.get (nodes_of entries.now) id.0 }
+pub fn node_of<'a>(ids: &TieredVec, entries: &'a Slab<Entry>, id: NodeId) -> Option<&'a Node>
+    requires full { AreFull entries.now ids.now.items }
+    requires rise { IsRising (entries_in entries.now ids.now.items) }
+    ensures { option_copied result ≡ map.get (nodes_of (entries_in entries.now ids.now.items)) id.0 }
 {
-    match entry_position(entries, id) {
-        Ok(at) => Some(&entries[at].node),
+    match entry_position(ids, entries, id) {
+        Ok(at) => {
+            let Some(slot) = ids.get(at) else {
+                unreachable!()
+            };
+            Some(&entries[slot].node)
+        }
         Err(_) => None,
     }
+}
+
+/// The identity of the entry in the slot at a position of a list.
+pub fn id_at(slots: &TieredVec, entries: &Slab<Entry>, at: usize) -> Option<NodeId>
+    requires { AreFull entries.now slots.now.items }
+    ensures { result ≡ slice_get (ids_in entries.now slots.now.items) at }
+{
+    let slot = slots.get(at)?;
+    Some(entries[slot].id)
 }

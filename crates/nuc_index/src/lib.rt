@@ -1,4 +1,4 @@
-//! The indexed tree: the nodes in order of identity, with two lists beside them that find a place and a child.
+//! The indexed tree: nodes in slots, with lists of the slots that find an identity, a place and a child.
 #![tactic(auto)]
 
 mod change;
@@ -6,6 +6,7 @@ mod entry;
 mod indexes;
 mod place;
 mod sibling;
+mod sought;
 #[cfg(test)]
 mod tests;
 mod tree;

@@ -1,50 +1,30 @@
-ghost use Rattle.std.specs.Prelude.{◌≡◌, ◌<◌, ◌≤◌, length, option_copied, MatchResult};
-ghost use Rattle.std.specs.FinMap as map;
+ghost use Rattle.std.specs.Prelude.{◌<◌, ◌≤◌, length, ℕ, MatchResult};
+ghost use Rattle.nuc_base.specs.Trees.{Nodes};
 ghost use Rattle.nuc_base.specs.declared.node.Place.{Place};
 ghost use Rattle.nuc_index.specs.Entries.{IsRising, nodes_of};
-ghost use Rattle.nuc_index.specs.Places.{IsPlaceAt, IsPlaceGap, IsRisingByPlace, place_order, to_place};
+ghost use Rattle.nuc_index.specs.Places.{IsPlaceAt, IsPlaceGap, IsRisingByPlace};
+ghost use Rattle.nuc_index.specs.Rows.{IsIn};
+ghost use Rattle.nuc_index.specs.Indexes.{AreSlots, tree_of};
+ghost use Rattle.nuc_index.specs.Slots.{ids_in, entries_in};
 
-use crate::entry::{Entry, node_of};
-use nuc_base::{Name, Node, NodeId, Place};
-use std::cmp::Ordering;
+use crate::entry::Entry;
+use crate::indexes::Indexes;
+use crate::sought::{Sought, position};
+use nuc_base::{Name, NodeId};
+use slab::Slab;
 
-/// Where the identity stands that has this place, or else where it would. A binary search that asks the entries for
-/// the places.
+/// Where the slot stands in the list by place that has this place, or else where it would.
 pub fn place_position(
-    places: &[NodeId],
-    entries: &[Entry],
+    indexes: &Indexes,
+    entries: &Slab<Entry>,
     parent: NodeId,
     name: &Name,
 ) -> Result<usize, usize>
-    requires entries { IsRising entries.now }
-    requires rise { IsRisingByPlace (nodes_of entries.now) places.now }
-    ensures place { let place : Place = record { parent = parent; name = name.now } in MatchResult result (IsPlaceAt (nodes_of entries.now) place places.now) (IsPlaceGap (nodes_of entries.now) place places.now) }
-    ensures bound { MatchResult result (λ i. i < length places.now) (λ i. i ≤ length places.now) }
+    requires slots { AreSlots entries.now indexes.now }
+    requires rise { IsRising (entries_in entries.now indexes.now.ids.items) }
+    requires places { IsRisingByPlace (tree_of entries.now indexes.now) (ids_in entries.now indexes.now.places.items) }
+    ensures place { let place : Place = record { parent = parent; name = name.now } in MatchResult result (IsPlaceAt (tree_of entries.now indexes.now) place (ids_in entries.now indexes.now.places.items)) (IsPlaceGap (tree_of entries.now indexes.now) place (ids_in entries.now indexes.now.places.items)) }
+    ensures bound { MatchResult result (λ i. i < length indexes.now.places.items) (λ i. i ≤ length indexes.now.places.items) }
 {
-    places.binary_search_by(
-        |id: &NodeId| -> Ordering
-            requires { IsRising entries.now }
-            ensures { let place : Place = record { parent = parent; name = name.entry.now } in result ≡ to_place (map.get (nodes_of entries.entry.now) id.now.0) place }
-        { order_to(node_of(entries, *id), parent, name) },
-    )
-}
-
-/// How the place of a node compares with this one. No node comes first.
-fn order_to(node: Option<&Node>, parent: NodeId, name: &Name) -> Ordering
-    ensures { let place : Place = record { parent = parent; name = name.now } in result ≡ to_place (option_copied node.entry) place }
-{
-    match node {
-        Some(node) => order(&node.place, parent, name),
-        None => Ordering::Less,
-    }
-}
-
-/// The order of places: by the parents' identities, and then by the order of names.
-fn order(place: &Place, parent: NodeId, name: &Name) -> Ordering
-    ensures { let other : Place = record { parent = parent; name = name.now } in result ≡ place_order place.now other }
-{
-    match place.parent.0.cmp(&parent.0) {
-        Ordering::Equal => place.name.order(name),
-        unequal => unequal,
-    }
+    position(&indexes.places, entries, Sought::At(parent, name))
 }

@@ -1,8 +1,12 @@
-ghost use Rattle.std.specs.Prelude.{◌≡◌, ◌<◌, ◌≤◌, length, ℕ, option_map, slice_get, MatchResult};
-ghost use Rattle.nuc_index.specs.Siblings.{IsRowAt, IsRowGap, IsRisingByParent, child_rows, id_below, sibling_order};
+ghost use Rattle.std.specs.Prelude.{◌≡◌, ◌<◌, ◌≤◌, ◌+◌, length, ℕ, option_map, slice_get, MatchResult};
+ghost use Rattle.nuc_index.specs.Siblings.{IsRowAt, IsRowGap, IsRisingByParent, child_rows, id_below};
+ghost use Rattle.nuc_index.specs.Slots.{AreFull, rows_in};
 
+use crate::entry::Entry;
+use crate::sought::{Sought, position, row_of};
 use nuc_base::NodeId;
-use std::cmp::Ordering;
+use nuc_tiered::TieredVec;
+use slab::Slab;
 
 /// An identity and its parent.
 #[derive(Clone, Copy, Debug, PartialEq, Eq)]
@@ -11,35 +15,37 @@ pub struct Sibling {
     pub id: NodeId,
 }
 
-/// Where the row stands, or else where it would. A binary search.
-pub fn sibling_position(siblings: &[Sibling], row: Sibling) -> Result<usize, usize>
-    requires { IsRisingByParent siblings.now }
-    ensures place { MatchResult result (IsRowAt row siblings.now) (IsRowGap row siblings.now) }
-    ensures bound { MatchResult result (λ i. i < length siblings.now) (λ i. i ≤ length siblings.now) }
+/// Where the slot of a row stands in the list by parent and identity, or else where it would.
+pub fn sibling_position(
+    siblings: &TieredVec,
+    entries: &Slab<Entry>,
+    row: Sibling,
+) -> Result<usize, usize>
+    requires full { AreFull entries.now siblings.now.items }
+    requires rise { IsRisingByParent (rows_in entries.now siblings.now.items) }
+    ensures place { MatchResult result (IsRowAt row (rows_in entries.now siblings.now.items)) (IsRowGap row (rows_in entries.now siblings.now.items)) }
+    ensures bound { MatchResult result (λ i. i < length siblings.now.items) (λ i. i ≤ length siblings.now.items) }
 {
-    siblings.binary_search_by(
-        |other: &Sibling| -> Ordering
-            ensures { result ≡ sibling_order other.now row }
-        { order(*other, row) },
-    )
-}
-
-/// The order of rows: by the parents' identities, and then by their own.
-fn order(row: Sibling, other: Sibling) -> Ordering
-    ensures { result ≡ sibling_order row other }
-{
-    match row.parent.0.cmp(&other.parent.0) {
-        Ordering::Equal => row.id.0.cmp(&other.id.0),
-        unequal => unequal,
-    }
+    position(siblings, entries, Sought::Row(row))
 }
 
 /// The identity at this position among those with this parent, in rising order.
-pub fn child_at(siblings: &[Sibling], parent: NodeId, i: u64) -> Option<NodeId>
-    requires { IsRisingByParent siblings.now }
-    ensures { option_map (λ x. x.0) result ≡ slice_get (child_rows parent.0 siblings.now) i }
+pub fn child_at(
+    siblings: &TieredVec,
+    entries: &Slab<Entry>,
+    parent: NodeId,
+    i: u64,
+) -> Option<NodeId>
+    requires full { AreFull entries.now siblings.now.items }
+    requires rise { IsRisingByParent (rows_in entries.now siblings.now.items) }
+    ensures { option_map (λ x. x.0) result ≡ slice_get (child_rows parent.0 (rows_in entries.now siblings.now.items)) i }
 {
-    let row = from_parent(siblings, parent).get(i as usize)?;
+    let start = from_parent(siblings, entries, parent);
+    if i >= (siblings.len() - start) as u64 {
+        return None;
+    }
+    let slot = siblings.get(i as usize + start)?;
+    let row = row_of(&entries[slot]);
     if row.parent == parent {
         Some(row.id)
     } else {
@@ -47,12 +53,19 @@ pub fn child_at(siblings: &[Sibling], parent: NodeId, i: u64) -> Option<NodeId>
     }
 }
 
-/// The rows from the first one on whose parent isn't below this one. A binary search.
-fn from_parent(siblings: &[Sibling], parent: NodeId) -> &[Sibling]
-    requires { IsRisingByParent siblings.now }
-    ensures { (i : ℕ) → slice_get (child_rows parent.0 siblings.now) i ≡ id_below parent.0 (slice_get result.now i) }
+/// Where the rows with this parent begin, or else where they would. No node has identity 0, so its row would be the first.
+fn from_parent(siblings: &TieredVec, entries: &Slab<Entry>, parent: NodeId) -> usize
+    requires full { AreFull entries.now siblings.now.items }
+    requires rise { IsRisingByParent (rows_in entries.now siblings.now.items) }
+    ensures rows { (i : ℕ) → slice_get (child_rows parent.0 (rows_in entries.now siblings.now.items)) i ≡ id_below parent.0 (slice_get (rows_in entries.now siblings.now.items) (i + result)) }
+    ensures bound { result ≤ length siblings.now.items }
 {
-    let start = siblings.partition_point(|row| row.parent.0 < parent.0);
-    let (_, rest) = siblings.split_at(start);
-    rest
+    let first = Sibling {
+        parent,
+        id: NodeId(0),
+    };
+    match sibling_position(siblings, entries, first) {
+        Ok(start) => start,
+        Err(start) => start,
+    }
 }

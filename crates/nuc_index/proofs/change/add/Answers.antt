@@ -1,29 +1,37 @@
-use Rattle.std.proofs.Common.{◌≡◌, ◌∙◌, ap, sym, subst, arith}
-use Rattle.std.specs.List.{insert}
+use Rattle.std.proofs.Common.{refl, arith}
 use Rattle.std.proofs.lemmas.Grind.{common_steps}
-use Rattle.nuc_index.specs.Entries.{nodes_of, IsRising}
-use Rattle.nuc_index.specs.Indexes.{IsIndex}
-use Rattle.nuc_index.proofs.Entries.{new_rises, new_is}
-use Rattle.nuc_index.proofs.Indexed.{as_shown, can_enter_new, kept_lists}
+use Rattle.nuc_index.specs.declared.indexes.Indexes.{Indexes}
+use Rattle.nuc_index.proofs.Changed.{can_enter_added, rise_added, tree_entered}
+use Rattle.nuc_index.proofs.Indexed.{grown_indexed, kept_lists}
 use Rattle.nuc_index.proofs.change.add.Goals as goal
+
+pub returns-in_err-reserve-clause-form : goal.returns-in_err-reserve-clause-form
+returns-in_err-reserve-clause-form c = grown_indexed _ _ _ c.reserve.ensures.capacity c.reserve.ensures.rest_kept c.requires.form
+
+pub returns-in_err-reserve-2-clause-form : goal.returns-in_err-reserve-2-clause-form
+returns-in_err-reserve-2-clause-form c = kept_lists _ _ _ c.reserve-2.ensures.same (grown_indexed _ _ _ c.reserve.ensures.capacity c.reserve.ensures.rest_kept c.requires.form)
 
 pub enter-requires-clause-can : goal.enter-requires-clause-can
 enter-requires-clause-can c =
-    let items : c.insert.new.self.items ≡ insert c.args.entries.now.items c.args.at c.args.entry = grind (arith, common_steps) in
-    let lists = kept_lists _ _ _ c.reserve.ensures.same c.requires.form.lists in
-    let shown : c.index.result.now ≡ c.args.entry = c.index.ensures ∙ c.insert.ensures.by_index.0 _ (grind (arith, common_steps)) in
-    as_shown _ _ _ _ _ (c.deref.ensures.value ∙ items) shown
-    (can_enter_new c.args.entries.now.items c.args.entry c.args.at c.reserve.new.self c.requires.form.rise c.requires.free c.requires.at lists)
-
-pub returns-clause-ok : goal.returns-clause-ok
-returns-clause-ok c =
-    let items : c.insert.new.self.items ≡ insert c.args.entries.now.items c.args.at c.args.entry = grind (arith, common_steps) in
-    ap nodes_of items ∙ new_is _ c.requires.form.rise c.args.entry.id.0 c.args.entry.node c.args.at c.requires.at
+    let lists : Indexes = record { ids = c.insert.new.self; places = c.reserve-2.new.self.places; siblings = c.reserve-2.new.self.siblings } in
+    can_enter_added _ c.reserve.new.self c.insert_reserved-slot.new.self _ c.reserve-2.new.self lists _ _ c.args.entry c.requires.form c.requires.at c.requires.free
+    c.reserve.ensures.capacity c.reserve.ensures.rest_kept c.reserve-2.ensures.same c.insert_reserved-slot.ensures.was_vacant c.insert_reserved-slot.ensures.updates c.insert.ensures.items refl refl
 
 pub returns-clause-form : goal.returns-clause-form
 returns-clause-form c =
-    let items : c.insert.new.self.items ≡ insert c.args.entries.now.items c.args.at c.args.entry = grind (arith, common_steps) in
+    let lists : Indexes = record { ids = c.insert.new.self; places = c.reserve-2.new.self.places; siblings = c.reserve-2.new.self.siblings } in
     record {
-      rise = subst IsRising (sym items) (new_rises _ c.requires.form.rise c.args.entry.id.0 c.args.entry.node c.args.at c.requires.at);
-      lists = subst (λ l. IsIndex (nodes_of l) c.enter.new.self) c.deref.ensures.value c.enter.ensures.lists;
+      fits = grind (arith, common_steps);
+      slots = c.enter.ensures.slots;
+      rise = rise_added _ c.reserve.new.self c.insert_reserved-slot.new.self _ c.reserve-2.new.self lists _ _ c.args.entry c.requires.form c.requires.at c.requires.free
+          c.reserve.ensures.capacity c.reserve.ensures.rest_kept c.reserve-2.ensures.same c.insert_reserved-slot.ensures.was_vacant c.insert_reserved-slot.ensures.updates c.insert.ensures.items refl refl
+          c.enter.new.self c.enter.ensures.ids;
+      lists = c.enter.ensures.lists;
     }
+
+pub returns-clause-ok : goal.returns-clause-ok
+returns-clause-ok c =
+    let lists : Indexes = record { ids = c.insert.new.self; places = c.reserve-2.new.self.places; siblings = c.reserve-2.new.self.siblings } in
+    tree_entered _ c.reserve.new.self c.insert_reserved-slot.new.self _ c.reserve-2.new.self lists _ _ c.args.entry c.requires.form c.requires.at c.requires.free
+    c.reserve.ensures.capacity c.reserve.ensures.rest_kept c.reserve-2.ensures.same c.insert_reserved-slot.ensures.was_vacant c.insert_reserved-slot.ensures.updates c.insert.ensures.items refl refl
+    c.enter.new.self c.enter.ensures.ids

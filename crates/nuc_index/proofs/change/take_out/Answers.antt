@@ -1,26 +1,50 @@
-use Rattle.std.proofs.Common.{◌≡◌, ◌<◌, ◌∙◌, ap, ap₂, sym, subst, length}
+use Rattle.std.proofs.Common.{◌∙◌, ◌<◌, length, ap, sym, subst, Some, arith}
 use Rattle.std.specs.FinMap as map
-use Rattle.std.proofs.lemmas.Option.{slice_get_read}
-use Rattle.nuc_index.specs.Entries.{nodes_of, IsRising}
-use Rattle.nuc_index.specs.Indexes.{IsIndex}
-use Rattle.nuc_index.proofs.Entries.{less_rises, less_is}
-use Rattle.nuc_index.proofs.Indexed.{there_at, one_at}
+use Rattle.std.specs.List.{remove}
+use Rattle.std.proofs.lemmas.Grind.{common_steps}
+use Rattle.nuc_index.specs.Indexes.{tree_of}
+use Rattle.nuc_index.specs.Rows.{IsIn}
+use Rattle.nuc_index.specs.declared.entry.Entry.{Entry}
+use Rattle.nuc_index.specs.declared.indexes.Indexes.{Indexes}
+use Rattle.nuc_index.proofs.Changed.{at_within, in_ids, node_before, tree_less, indexed_less}
+use Rattle.nuc_index.proofs.Indexed.{id_here}
+use Rattle.nuc_index.proofs.Slots.{entry_is}
 use Rattle.nuc_index.proofs.change.take_out.Goals as goal
 
-pub leave-requires-clause-there : goal.leave-requires-clause-there
-leave-requires-clause-there c = there_at _ _ c.args.at c.index.result.now c.requires.form.rise c.deref.ensures.value (subst (λ n. c.args.at < n) c.args.entries.now.ok.0 c.requires.within) c.index.ensures
+pub slot_at-slot-requires : goal.slot_at-slot-requires
+slot_at-slot-requires c = at_within c.args.entries.now c.args.indexes.now.ids.items c.args.id.0 c.args.at c.requires.at
 
-pub returns-clause-nodes : goal.returns-clause-nodes
-returns-clause-nodes c =
-    let at = slice_get_read _ _ c.args.at c.remove.result c.args.entries.now.ok.0 c.requires.within c.remove.ensures.value in
-    ap nodes_of c.remove.ensures.items ∙ less_is _ c.requires.form.rise c.args.at c.remove.result at
+pub leave-requires-clause-there : goal.leave-requires-clause-there
+leave-requires-clause-there c = in_ids c.args.entries.now c.args.indexes.now c.requires.form c.args.at c.slot_at-slot.result c.slot_at-slot.ensures
+
+pub remove-requires : goal.remove-requires
+remove-requires c = record {
+  within = subst (λ v. c.args.at < length v.items) (sym c.leave.ensures.ids) (at_within c.args.entries.now c.args.indexes.now.ids.items c.args.id.0 c.args.at c.requires.at);
+}
+
+pub remove-node-requires : goal.remove-node-requires
+remove-node-requires c = c.requires.form.slots.full _ (in_ids c.args.entries.now c.args.indexes.now c.requires.form c.args.at c.slot_at-slot.result c.slot_at-slot.ensures)
 
 pub returns-clause-form : goal.returns-clause-form
 returns-clause-form c =
-    let at = slice_get_read _ _ c.args.at c.remove.result c.args.entries.now.ok.0 c.requires.within c.remove.ensures.value in
-    let within : c.args.at < length c.args.entries.now.items = subst (λ n. c.args.at < n) c.args.entries.now.ok.0 c.requires.within in
-    let same : c.index.result.now ≡ c.remove.result = one_at _ c.args.at _ _ within c.index.ensures c.remove.ensures.value in
-    record {
-      rise = subst IsRising (sym c.remove.ensures.items) (less_rises _ c.requires.form.rise c.args.at c.remove.result at);
-      lists = subst (λ m. IsIndex m c.leave.new.self) (ap₂ (λ l e. map.remove (nodes_of l) e.id.0) c.deref.ensures.value same ∙ sym (returns-clause-nodes c)) c.leave.ensures.lists;
-    }
+    let after : Indexes = record { ids = c.remove.new.self; places = c.leave.new.self.places; siblings = c.leave.new.self.siblings } in
+    indexed_less c.args.entries.now c.args.indexes.now c.requires.form c.args.at c.slot_at-slot.result c.slot_at-slot.ensures c.remove-node.new.self after
+    c.remove-node.ensures.updates.others (c.remove.ensures.items ∙ ap (λ v. remove v.items c.args.at) c.leave.ensures.ids)
+    (λ l h. subst (λ v. IsIn l v.items) c.leave.ensures.ids (c.leave.ensures.slots.places l h))
+    (λ l h. subst (λ v. IsIn l v.items) c.leave.ensures.ids (c.leave.ensures.slots.siblings l h))
+    c.leave.ensures.lists (grind (arith, common_steps, c.requires.form.fits))
+
+pub returns-clause-before : goal.returns-clause-before
+returns-clause-before c =
+    node_before c.args.entries.now c.args.indexes.now c.requires.form c.args.at c.slot_at-slot.result c.slot_at-slot.ensures c.args.id.0 c.requires.at
+    ∙ ap (λ (e : Entry). Some e.node) (entry_is c.args.entries.now c.slot_at-slot.result c.remove-node.result c.remove-node.ensures.value)
+
+pub returns-clause-nodes : goal.returns-clause-nodes
+returns-clause-nodes c =
+    let after : Indexes = record { ids = c.remove.new.self; places = c.leave.new.self.places; siblings = c.leave.new.self.siblings } in
+    tree_less c.args.entries.now c.args.indexes.now c.requires.form c.args.at c.slot_at-slot.result c.slot_at-slot.ensures c.remove-node.new.self after
+    c.remove-node.ensures.updates.others (c.remove.ensures.items ∙ ap (λ v. remove v.items c.args.at) c.leave.ensures.ids)
+    (λ l h. subst (λ v. IsIn l v.items) c.leave.ensures.ids (c.leave.ensures.slots.places l h))
+    (λ l h. subst (λ v. IsIn l v.items) c.leave.ensures.ids (c.leave.ensures.slots.siblings l h))
+    c.leave.ensures.lists
+    ∙ ap (map.remove (tree_of c.args.entries.now c.args.indexes.now)) (id_here c.args.entries.now c.args.indexes.now.ids.items c.requires.form.rise c.args.at c.slot_at-slot.result c.slot_at-slot.ensures c.args.id.0 c.requires.at)

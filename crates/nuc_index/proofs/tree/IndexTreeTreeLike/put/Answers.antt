@@ -3,8 +3,7 @@ use Rattle.std.specs.FinMap as map
 use Rattle.nuc_base.specs.Room.{room_for}
 use Rattle.nuc_base.specs.Trees.{WellFormed}
 use Rattle.nuc_base.proofs.Forms.{put_keeps}
-use Rattle.nuc_index.specs.Entries.{nodes_of, IsEntryGap}
-use Rattle.nuc_index.specs.Indexes.{room}
+use Rattle.nuc_index.specs.Indexes.{room, tree_of}
 use Rattle.nuc_index.proofs.Entries.{absent}
 use Rattle.nuc_index.proofs.tree.IndexTreeTreeLike.put.Goals as goal
 
@@ -15,12 +14,11 @@ returns-in-Ok-clause-tree c =
 
 pub returns-in_ok-map_err-in-Err-clause-before : goal.returns-in_ok-map_err-in-Err-clause-before
 returns-in_ok-map_err-in-Err-clause-before c =
-    let gap = subst (λ l. IsEntryGap c.args.id.0 l c.in-Err.at) c.deref.ensures.value c.in-Err.ensures.place in
-    sym (ap (λ s. map.get s.nodes c.args.id.0) (sym c.self.view_is) ∙ absent _ c.self.invariant.rise c.args.id.0 c.in-Err.at gap)
+    sym (ap (λ s. map.get s.nodes c.args.id.0) (sym c.self.view_is) ∙ absent _ c.self.invariant.rise c.args.id.0 c.in-Err.at c.in-Err.ensures.place)
 
 pub returns-in_ok-map_err-in-Err-clause-tree : goal.returns-in_ok-map_err-in-Err-clause-tree
 returns-in_ok-map_err-in-Err-clause-tree c =
-    let added : nodes_of c.add.new.entries.items ≡ map.insert (nodes_of c.self.inside.entries.items) c.args.id.0 c.args.node = search rules in
+    let added : tree_of c.add.new.entries c.add.new.indexes ≡ map.insert (tree_of c.self.inside.entries c.self.inside.indexes) c.args.id.0 c.args.node = search rules in
     let done = added ∙ ap (λ s. map.insert s.nodes c.args.id.0 c.args.node) c.self.view_is in
     subst WellFormed (sym done) (put_keeps _ _ _ c.requires.tree c.in_ok-check_put.ensures.ok c.requires.id c.requires.fits)
 
