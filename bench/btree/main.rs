@@ -1,11 +1,14 @@
 //! A tree of nodes over the maps of Rust's standard library, to measure the indexed tree beside: it answers the command
-//! `btree put|at|child|under|cut COUNT` as `nucleus_bench ask index` does.
+//! `btree put|at|child|under|cut|shuffle COUNT` as `nucleus_bench ask index` does.
 
 use std::collections::{BTreeMap, BTreeSet};
 use std::process::ExitCode;
 
 /// How many files a folder has.
 const FILES: u64 = 50;
+
+/// How far it is from one node to the next in an order that jumps.
+const JUMP: u64 = 7_919;
 
 struct Node {
     parent: u64,
@@ -79,12 +82,17 @@ impl Tree {
     }
 }
 
+/// Whether the node of this number is a folder; all else are files.
+fn is_folder(number: u64) -> bool {
+    number % (FILES + 1) == 0
+}
+
 fn filled(count: u64) -> Tree {
     let mut tree = Tree::default();
     let mut parent = 0;
     for number in 0..count {
         let id = number + 1;
-        let is_folder = number % (FILES + 1) == 0;
+        let is_folder = is_folder(number);
         let letter = if is_folder { 'd' } else { 'f' };
         let node = Node {
             parent: if is_folder { 0 } else { parent },
@@ -117,6 +125,11 @@ fn answers(asked: &str, count: u64) -> Option<u64> {
     match asked {
         "put" => Some(tree.nodes.len() as u64),
         "cut" => Some((1..=count).rev().filter(|id| tree.cut(*id)).count() as u64),
+        "shuffle" => {
+            let numbers = (0..count).map(|i| i * JUMP % count);
+            let files = numbers.filter(|number| !is_folder(*number));
+            Some(files.filter(|number| tree.cut(number + 1)).count() as u64)
+        }
         "at" | "child" | "under" => {
             let found = (0..count).filter(|i| answered(&tree, asked, *i, i + 1));
             Some(found.count() as u64)
@@ -137,7 +150,7 @@ fn main() -> ExitCode {
             ExitCode::SUCCESS
         }
         None => {
-            eprintln!("usage: btree put|at|child|under|cut COUNT");
+            eprintln!("usage: btree put|at|child|under|cut|shuffle COUNT");
             ExitCode::from(2)
         }
     }

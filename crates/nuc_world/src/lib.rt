@@ -6,9 +6,15 @@ mod committing;
 mod folder_work;
 mod laws;
 mod member;
+#[cfg(test)]
+mod mend_tests;
 mod nothing_lost;
 mod observing;
+#[cfg(test)]
+mod plan_tests;
 mod reading;
+#[cfg(test)]
+mod scan_tests;
 mod shared;
 mod starting;
 mod stepping;
@@ -17,7 +23,11 @@ mod syncing;
 mod taking;
 #[cfg(test)]
 mod tests;
+#[cfg(test)]
+mod trial;
 mod turn;
+#[cfg(test)]
+mod watch_tests;
 mod world;
 
 pub use laws::{each_step_has_one_end, each_step_keeps_a_world};

@@ -134,7 +134,7 @@ fn small_hashes(rt: &(impl Threads + Sync), alloc: Global) -> Result<String, Fau
 }
 
 fn add_asks(alloc: Global, text: &mut String) -> Result<(), Fault> {
-    for word in ["put", "at", "child", "under", "cut"] {
+    for word in ["put", "at", "child", "under", "cut", "shuffle"] {
         let line = trees::ask_each(alloc, "index", word, 70)?;
         add_line(text, line.as_str())?;
     }

@@ -1,3 +1,4 @@
+ghost use Rattle.std.specs.Prelude.{◌<◌};
 ghost use Rattle.nuc_base.specs.Kinds.{FitsKind};
 ghost use Rattle.nuc_base.specs.Trees.{WellFormed};
 
@@ -7,6 +8,10 @@ use nuc_base::{Node, NodeId, TreeLike, Ver};
 use nuc_index::IndexTree;
 use nuc_tree::Tree;
 use std::alloc::{AllocError, Global};
+
+/// How far it is from one node to the next in an order that jumps: a prime, so that each node comes once in trees of
+/// 1,000, 10,000 and 100,000.
+const JUMP: u64 = 7_919;
 
 /// What is asked of a tree, for each of its nodes once.
 #[derive(Clone, Copy, Debug, PartialEq, Eq)]
@@ -21,6 +26,8 @@ enum Ask {
     Under,
     /// That it goes, from the last to the first.
     Cut,
+    /// That it goes if it is a file, in an order that jumps.
+    Shuffle,
 }
 
 impl Ask {
@@ -31,6 +38,7 @@ impl Ask {
             "child" => Some(Ask::Child),
             "under" => Some(Ask::Under),
             "cut" => Some(Ask::Cut),
+            "shuffle" => Some(Ask::Shuffle),
             _ => None,
         }
     }
@@ -52,7 +60,7 @@ fn filled<T: TreeLike + Drop>(alloc: Global, asked: Ask, count: u64) -> Result<u
     fill(alloc, &mut tree, count)?;
     match asked {
         Ask::Put => Ok(tree.len()),
-        Ask::Cut => cut_all(&mut tree),
+        Ask::Cut | Ask::Shuffle => cut_all(&mut tree, asked),
         Ask::At | Ask::Child | Ask::Under => ask_all(&tree, asked),
     }
 }
@@ -108,10 +116,16 @@ fn answered<T: TreeLike>(tree: &T, asked: Ask, i: u64) -> bool {
     }
 }
 
-fn cut_all<T: TreeLike>(tree: &mut T) -> Result<u64, Fault> {
+/// How many nodes go.
+fn cut_all<T: TreeLike>(tree: &mut T, asked: Ask) -> Result<u64, Fault> {
+    let count = tree.len();
     let mut cut: u64 = 0;
-    for _ in 0..tree.len() {
-        if cut_last(tree) {
+    for i in 0..count {
+        let gone = match asked {
+            Ask::Shuffle => cut_file(tree, jumped(i, count)?),
+            _ => cut_last(tree),
+        };
+        if gone {
             cut = cut.checked_add(1).ok_or(AllocError)?;
         }
     }
@@ -125,6 +139,25 @@ fn cut_last<T: TreeLike>(tree: &mut T) -> bool {
     };
     match tree.nth(at) {
         Some(id) => tree.cut(id).is_ok(),
+        None => false,
+    }
+}
+
+/// The number that comes at this turn, of so many, in an order that jumps.
+fn jumped(i: u64, count: u64) -> Result<u64, AllocError>
+    requires { 0 < count }
+{
+    let far = i.checked_mul(JUMP).ok_or(AllocError)?;
+    Ok(far % count)
+}
+
+/// Whether the node of this number is a file that is there, and goes.
+fn cut_file<T: TreeLike>(tree: &mut T, number: u64) -> bool {
+    if number % (FILES + 1) == 0 {
+        return false;
+    }
+    match number.checked_add(1) {
+        Some(id) => tree.cut(NodeId(id)).is_ok(),
         None => false,
     }
 }

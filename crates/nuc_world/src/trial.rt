@@ -1,4 +1,5 @@
 //! A world of one client, with its steps, trees and files as values, for tests.
+use crate::{Stop, World};
 use nuc_base::{Kind, Name, Node, NodeId, Path, TreeLike};
 use nuc_class::{Op, Verb};
 use nuc_edits::{Edit as Recorded, EditKind};
@@ -8,7 +9,6 @@ use nuc_log::{Event, LogEntry, MarkReply, Member, Reply, TakeReply};
 use nuc_server::{WebEdit, WebReply};
 use nuc_step::{DoneReply, Planned, Scanned, WatchReply};
 use nuc_tree::Tree;
-use nuc_world::{Stop, World};
 use sqlite_items::Items;
 use std::alloc::Global;
 use std::process::Abort;
@@ -82,6 +82,7 @@ pub(crate) enum Plan {
     Busy(u64),
 }
 
+/// These names as a path; a word that is no name ends the test.
 fn path(rt: &impl Abort, alloc: Global, names: &[&str]) -> Path {
     let mut path = Items::new(alloc);
     for part in names {
@@ -95,6 +96,7 @@ fn path(rt: &impl Abort, alloc: Global, names: &[&str]) -> Path {
     Path { names: path }
 }
 
+/// The bytes as an edit gives them.
 fn filling(rt: &impl Abort, alloc: Global, text: Text) -> Filling {
     match Items::from_slice(alloc, text.bytes) {
         Ok(bytes) => Filling::Given(bytes),
@@ -102,6 +104,7 @@ fn filling(rt: &impl Abort, alloc: Global, text: Text) -> Filling {
     }
 }
 
+/// The edit as a user makes it in the folder.
 fn user_edit(rt: &impl Abort, alloc: Global, edit: Edit) -> UserEdit {
     match edit {
         Edit::Mkdir(names) => UserEdit::Mkdir(path(rt, alloc, names)),
@@ -114,6 +117,7 @@ fn user_edit(rt: &impl Abort, alloc: Global, edit: Edit) -> UserEdit {
     }
 }
 
+/// The edit as it is made on the web.
 fn web_edit(rt: &impl Abort, alloc: Global, edit: Edit) -> WebEdit {
     match edit {
         Edit::Mkdir(names) => WebEdit::Mkdir(path(rt, alloc, names)),
@@ -126,6 +130,7 @@ fn web_edit(rt: &impl Abort, alloc: Global, edit: Edit) -> WebEdit {
     }
 }
 
+/// Whether a version fits the kind: 0 of a folder alone.
 fn is_kind(kind: Kind, ver: u64) -> bool {
     match kind {
         Kind::Folder => ver == 0,
@@ -133,6 +138,7 @@ fn is_kind(kind: Kind, ver: u64) -> bool {
     }
 }
 
+/// Whether the node has this row's parent, name and version, and the kind that goes with the version.
 fn is_node(node: &Node, row: Row) -> bool {
     let (_, parent, name, ver) = row;
     node.place.parent.0 == parent
@@ -141,6 +147,7 @@ fn is_node(node: &Node, row: Row) -> bool {
         && is_kind(node.kind, ver)
 }
 
+/// Whether the row's identity stands in the tree, with this node.
 fn has_row<T: TreeLike>(tree: &T, row: Row) -> bool {
     match tree.get(NodeId(row.0)) {
         Some(node) => is_node(node, row),
@@ -161,10 +168,12 @@ fn are_rows<T: TreeLike>(tree: &T, rows: &[Row]) -> bool {
     true
 }
 
+/// Whether the content has the hash and the size of this text.
 fn is_content(content: &Content, text: Text) -> bool {
     content.hash().0 == text.hash && content.size() == text.bytes.len() as u64
 }
 
+/// Whether both are there and agree, or neither is, as of a folder.
 fn has_content(content: &Option<Content>, text: Option<Text>) -> bool {
     match (content, text) {
         (Some(content), Some(text)) => is_content(content, text),
@@ -173,6 +182,7 @@ fn has_content(content: &Option<Content>, text: Option<Text>) -> bool {
     }
 }
 
+/// Whether an item of the listing says what this line says.
 fn is_line(item: &Item, line: Line) -> bool {
     let (key, parent, name, text) = line;
     item.key.0 == key
@@ -181,6 +191,7 @@ fn is_line(item: &Item, line: Line) -> bool {
         && has_content(&item.content, text)
 }
 
+/// Whether the items are just these lines, in this order.
 fn are_lines(items: &[Item], lines: &[Line]) -> bool {
     if items.len() != lines.len() {
         return false;
@@ -193,6 +204,7 @@ fn are_lines(items: &[Item], lines: &[Line]) -> bool {
     true
 }
 
+/// Whether an edit put this text, or deleted where there is none.
 fn did(what: &EditKind, text: Option<Text>) -> bool {
     match (what, text) {
         (EditKind::Put(content), Some(text)) => is_content(content, text),
@@ -201,16 +213,19 @@ fn did(what: &EditKind, text: Option<Text>) -> bool {
     }
 }
 
+/// Whether a recorded edit is this one.
 fn is_record(edit: &Recorded, record: Record) -> bool {
     let (ver, id, base, text) = record;
     edit.ver.0 == ver && edit.id.0 == id && edit.base.0 == base && did(&edit.what, text)
 }
 
+/// Whether the operation is the one that is told in brief.
 fn is_brief(op: &Op, brief: Brief) -> bool {
     let (number, verb, id, other) = brief;
     op.number == number && op.verb == verb && op.id.0 == id && op.other.0 == other
 }
 
+/// Whether the operations are just these, in this order.
 fn are_briefs(ops: &[Op], briefs: &[Brief]) -> bool {
     if ops.len() != briefs.len() {
         return false;
@@ -223,6 +238,7 @@ fn are_briefs(ops: &[Op], briefs: &[Brief]) -> bool {
     true
 }
 
+/// Whether the client planned just this.
 fn is_plan(planned: &Planned, plan: Plan) -> bool {
     match (planned, plan) {
         (Planned::Empty, Plan::Empty) => true,
@@ -242,6 +258,7 @@ pub(crate) struct Trial {
 }
 
 impl Trial {
+    /// Server, client and folder hold nothing.
     pub(crate) fn new(rt: &impl Abort, alloc: Global) -> Trial {
         match World::empty(alloc, 1) {
             Ok(world) => Trial { alloc, world },
@@ -260,6 +277,7 @@ impl Trial {
         trial
     }
 
+    /// The world takes the event. That it isn't taken ends the test.
     fn step(&mut self, rt: &impl Abort, event: Event) {
         assert!(rt; self.world.step(self.alloc, event).is_ok());
     }
@@ -272,6 +290,7 @@ impl Trial {
         }
     }
 
+    /// What the client's user is answered to this edit in the folder.
     pub(crate) fn user(&mut self, rt: &impl Abort, edit: Edit) -> Option<UserReply> {
         let edit = user_edit(rt, self.alloc, edit);
         self.step(rt, Event::User { client: 1, edit });
@@ -281,6 +300,7 @@ impl Trial {
         }
     }
 
+    /// What this edit is answered on the web.
     pub(crate) fn web(&mut self, rt: &impl Abort, edit: Edit) -> Option<WebReply> {
         let edit = web_edit(rt, self.alloc, edit);
         self.step(rt, Event::Web { edit });
@@ -308,6 +328,7 @@ impl Trial {
         }
     }
 
+    /// What comes of the listing that is held.
     pub(crate) fn scan(&mut self, rt: &impl Abort) -> Option<Scanned> {
         self.step(rt, Event::Scan { client: 1 });
         match self.reply() {
@@ -346,6 +367,7 @@ impl Trial {
         }
     }
 
+    /// The client plans; the plan isn't looked at.
     fn plan(&mut self, rt: &impl Abort) {
         self.step(rt, Event::Plan { client: 1 });
     }
@@ -359,10 +381,12 @@ impl Trial {
         }
     }
 
+    /// The operation of this number begins; how that is answered isn't looked at.
     fn start(&mut self, rt: &impl Abort, number: u64) {
         self.step(rt, Event::Start { client: 1, number });
     }
 
+    /// How the operation's outside change was taken: as a commit, or by calls of the folder.
     fn take(&mut self, rt: &impl Abort, number: u64) -> Option<TakeReply> {
         self.step(rt, Event::Take { client: 1, number });
         match self.reply() {
@@ -371,6 +395,7 @@ impl Trial {
         }
     }
 
+    /// How the operation of this number ended.
     fn done(&mut self, rt: &impl Abort, number: u64) -> Option<DoneReply> {
         self.step(rt, Event::Done { client: 1, number });
         match self.reply() {
@@ -387,10 +412,12 @@ impl Trial {
         took
     }
 
+    /// The client forgets what is in flight.
     pub(crate) fn restart(&mut self, rt: &impl Abort) {
         self.step(rt, Event::Restart { client: 1 });
     }
 
+    /// Whether the client has come to rest, as the mark says.
     pub(crate) fn mark(&mut self, rt: &impl Abort) -> Option<MarkReply> {
         self.step(rt, Event::Mark { client: 1 });
         match self.reply() {
@@ -399,6 +426,7 @@ impl Trial {
         }
     }
 
+    /// The client, with its folder.
     fn member(&self, rt: &impl Abort) -> &Member<Tree> {
         match self.world.member(1) {
             Some(member) => member,

@@ -1,8 +1,8 @@
 //! A client's listings, scans and watches, step by step.
+use crate::Stop;
 use crate::trial::{Edit, ONE, TWO, Trial};
 use nuc_base::NodeId;
 use nuc_step::{Scanned, WatchReply};
-use nuc_world::Stop;
 use std::test::Fail;
 
 #[test]
