@@ -16,8 +16,11 @@ down (x ∷ xs) zero c d lt = refl
 down (x ∷ xs) (suc p) c d lt = ap (λ l. x ∷ l) (down xs p c d (omega arith))
 
 -- what is in front of the hand
-front : (xs : List ℕ) (n c : ℕ) → n ≤ length xs → take n (insert xs n c) ≡ take n xs
-front xs n c le = take_at _ _ n (length-take-le n xs le)
+front : (xs : List ℕ) (n t c : ℕ) → n ≤ t → t ≤ length xs → take n (insert xs t c) ≡ take n xs
+front xs zero t c le within = refl
+front xs (suc n) zero c le within = absurd (omega arith)
+front [] (suc n) (suc t) c le within = absurd (omega arith)
+front (x ∷ xs) (suc n) (suc t) c le within = ap (λ l. x ∷ l) (front xs n t c (omega arith) (omega arith))
 
 front_more : (xs : List ℕ) (i n c : ℕ) → i ≤ n → take (suc n) (insert xs i c) ≡ insert (take n xs) i c
 front_more xs zero n c le = refl
@@ -31,20 +34,20 @@ remove_insert xs zero c le = refl
 remove_insert [] (suc i) c le = absurd (omega arith)
 remove_insert (x ∷ xs) (suc i) c le = ap (λ l. x ∷ l) (remove_insert xs i c (omega arith))
 
--- the hand went from i to the end of the items
-pub inserted : (xs ys : List ℕ) (i n x c : ℕ) → i ≤ n → suc n ≤ length ys → insert ys (suc n) c ≡ insert xs i x → take (suc n) ys ≡ insert (take n xs) i x
-inserted xs ys i n x c le within same = sym (front ys (suc n) c within) ∙ ap (take (suc n)) same ∙ front_more xs i n x le
+-- the hand went from i to the end of the items, or beyond
+pub inserted : (xs ys : List ℕ) (i n t x c : ℕ) → i ≤ n → suc n ≤ t → t ≤ length ys → insert ys t c ≡ insert xs i x → take (suc n) ys ≡ insert (take n xs) i x
+inserted xs ys i n t x c le behind within same = sym (front ys (suc n) t c behind within) ∙ ap (take (suc n)) same ∙ front_more xs i n x le
 
--- the hand went from the end of the items to i
-taken : (xs ys : List ℕ) (i n x c : ℕ) → i ≤ n → suc n ≤ length xs → insert ys i c ≡ insert xs (suc n) x → take (suc n) xs ≡ insert (take n ys) i c
-taken xs ys i n x c le within same = sym (front xs (suc n) x within) ∙ ap (take (suc n)) (sym same) ∙ front_more ys i n c le
+-- the hand went from the end of the items, or beyond, to i
+taken : (xs ys : List ℕ) (i n t x c : ℕ) → i ≤ n → suc n ≤ t → t ≤ length xs → insert ys i c ≡ insert xs t x → take (suc n) xs ≡ insert (take n ys) i c
+taken xs ys i n t x c le behind within same = sym (front xs (suc n) t x behind within) ∙ ap (take (suc n)) (sym same) ∙ front_more ys i n c le
 
-module _ (xs ys : List ℕ) (i n x c : ℕ) (le : i ≤ n) (within : suc n ≤ length xs) (long : length ys ≡ length xs) (same : insert ys i c ≡ insert xs (suc n) x) where
+module _ (xs ys : List ℕ) (i n t x c : ℕ) (le : i ≤ n) (behind : suc n ≤ t) (within : t ≤ length xs) (long : length ys ≡ length xs) (same : insert ys i c ≡ insert xs t x) where
   fits : i ≤ length (take n ys)
   fits = omega (arith, length-take-le n ys (omega arith))
 
   pub removed : take n ys ≡ remove (take (suc n) xs) i
-  removed = sym (ap (λ l. remove l i) (taken xs ys i n x c le within same) ∙ remove_insert (take n ys) i c fits)
+  removed = sym (ap (λ l. remove l i) (taken xs ys i n t x c le behind within same) ∙ remove_insert (take n ys) i c fits)
 
 -- what a list behind a borrow is afterwards
 pub written : (xs ys : List ℕ) (n : ℕ) → length xs ≡ n → take n (xs ++ drop (length xs) ys) ≡ xs

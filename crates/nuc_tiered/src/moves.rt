@@ -1,4 +1,4 @@
-ghost use Rattle.std.specs.Prelude.{◌≡◌, ◌≤◌, ◌*◌, length};
+ghost use Rattle.std.specs.Prelude.{◌≡◌, ◌≤◌, ◌+◌, ◌*◌, ◌/◌, ◌%◌, length};
 ghost use Rattle.std.specs.List.{insert};
 ghost use Rattle.nuc_tiered.specs.Rings.{IsRings, row};
 
@@ -86,7 +86,31 @@ fn rings_down(
     hand
 }
 
-/// Moves the hand up from one position to another. Only at its two ends does that go item by item.
+/// Moves the hand from one position to another, item by item.
+fn items_to(cells: &mut [usize], heads: &[usize], from: usize, to: usize, hand: usize) -> usize
+    requires form { IsRings cells.old heads.now }
+    requires start { from ≤ length cells.old }
+    requires end { to ≤ length cells.old }
+    ensures form { IsRings cells.new heads.now }
+    ensures length { length cells.new ≡ length cells.old }
+    ensures row { insert (row cells.new heads.now) to result ≡ insert (row cells.old heads.now) from hand }
+{
+    if from <= to {
+        items_up(cells, heads, from, to, hand)
+    } else {
+        items_down(cells, heads, from, to, hand)
+    }
+}
+
+/// The block whose start is nearest to a position: its own, or the next one.
+fn nearest(p: usize) -> usize
+    ensures { result ≡ p / 512 + p % 512 / 256 }
+{
+    p / BLOCK + p % BLOCK / (BLOCK / 2)
+}
+
+/// Moves the hand up from one position to another. Only at its two ends does that go item by item: first to the nearest start
+/// of a block, be it below.
 pub fn move_up(
     cells: &mut [usize],
     heads: &mut [usize],
@@ -101,16 +125,18 @@ pub fn move_up(
     ensures length { length cells.new ≡ length cells.old }
     ensures row { insert (row cells.new heads.new) to result ≡ insert (row cells.old heads.old) from hand }
 {
-    let (low, high) = (from / BLOCK, to / BLOCK);
-    if low == high {
+    let high = to / BLOCK;
+    if from / BLOCK == high {
         return items_up(cells, heads, from, to, hand);
     }
-    let hand = items_up(cells, heads, from, (low + 1) * BLOCK, hand);
-    let hand = rings_up(cells, heads, low + 1, high, hand);
+    let low = nearest(from);
+    let hand = items_to(cells, heads, from, low * BLOCK, hand);
+    let hand = rings_up(cells, heads, low, high, hand);
     items_up(cells, heads, high * BLOCK, to, hand)
 }
 
-/// Moves the hand down from one position to another. Only at its two ends does that go item by item.
+/// Moves the hand down from one position to another. Only at its two ends does that go item by item: last from the nearest
+/// start of a block, be it below.
 pub fn move_down(
     cells: &mut [usize],
     heads: &mut [usize],
@@ -125,11 +151,12 @@ pub fn move_down(
     ensures length { length cells.new ≡ length cells.old }
     ensures row { insert (row cells.new heads.new) to result ≡ insert (row cells.old heads.old) from hand }
 {
-    let (low, high) = (to / BLOCK, from / BLOCK);
-    if low == high {
+    let high = from / BLOCK;
+    if to / BLOCK == high {
         return items_down(cells, heads, from, to, hand);
     }
+    let low = nearest(to);
     let hand = items_down(cells, heads, from, high * BLOCK, hand);
-    let hand = rings_down(cells, heads, high, low + 1, hand);
-    items_down(cells, heads, (low + 1) * BLOCK, to, hand)
+    let hand = rings_down(cells, heads, high, low, hand);
+    items_to(cells, heads, low * BLOCK, to, hand)
 }

@@ -90,7 +90,8 @@ impl TieredVec {
         ensures spare { self.old.spare ≡ self.new.spare + 1 }
     {
         self.len += 1;
-        move_up(&mut self.cells, &mut self.heads, i, self.len, x);
+        let end = reach(i, self.len, self.cells.len());
+        move_up(&mut self.cells, &mut self.heads, i, end, x);
     }
 
     /// Takes the item at a position out, and hands it over. Its room is spare then.
@@ -100,8 +101,24 @@ impl TieredVec {
         ensures items { self.new.items ≡ remove self.old.items i }
         ensures spare { self.new.spare ≡ self.old.spare + 1 }
     {
-        let result = move_down(&mut self.cells, &mut self.heads, self.len, i, 0);
+        let end = reach(i, self.len, self.cells.len());
+        let result = move_down(&mut self.cells, &mut self.heads, end, i, 0);
         self.len -= 1;
         result
     }
+}
+
+/// Where the hand ends that goes up from a position through so many items: where they end, if that is in the same block, and
+/// else where the last block ends, so that it turns as the others do.
+fn reach(i: usize, len: usize, cells: usize) -> usize
+    requires some { 0 < len }
+    requires within { len ≤ cells }
+    ensures behind { len ≤ result }
+    ensures within { result ≤ cells }
+{
+    let last = (len - 1) / BLOCK;
+    if i / BLOCK == last {
+        return len;
+    }
+    (last * BLOCK).saturating_add(BLOCK).min(cells)
 }
