@@ -78,7 +78,8 @@ lists_still s t i j m k others same also p q lists =
 -- a new entry in an empty slot
 module _ (s t : Slab Entry) (i j : Indexes) (k at : ℕ) (e : Entry) (form : IsIndexed s i) (gap : IsEntryGap e.id.0 (entries_in s i.ids.items) at)
     (free : IsFree (tree_of s i) e.id.0 e.node.place) (now : get t k ≡ Some e) (others : (l : ℕ) → l ≢ k → get t l ≡ get s l)
-    (apart : (l : ℕ) → IsIn l i.ids.items → l ≢ k) (ids : j.ids.items ≡ insert i.ids.items at k) (places : j.places.items ≡ i.places.items) (siblings : j.siblings.items ≡ i.siblings.items) where
+    (apart : (l : ℕ) → IsIn l i.ids.items → l ≢ k) (ids : j.ids.items ≡ insert i.ids.items at k) (places : j.places.items ≡ i.places.items)
+        (siblings : j.siblings.items ≡ i.siblings.items) where
   entries_new : entries_in t j.ids.items ≡ insert (entries_in s i.ids.items) at e
   entries_new = ap (entries_in t) ids ∙ map_insert (entry_in t) i.ids.items at k
       ∙ ap₂ (λ l f. insert l at f) (entries_still s t k others i.ids.items apart) (entry_is t k e now)
@@ -117,7 +118,8 @@ module _ (s : Slab Entry) (ks : List ℕ) (rise : IsRising (entries_in s ks)) (a
   -- it is nowhere else in the list
   pub once : (l : ℕ) → IsIn l (remove ks at) → l ≢ k
   once l h e = removed_out entry_order (entries_in s ks) at (entry_in s k) (tied_itself nat_cmp_total (entry_in s k).id.0) rise entry_here
-      (subst (λ es. IsIn (entry_in s k) es) (map_remove (entry_in s) ks at) (subst (λ z. IsIn (entry_in s z) (map (entry_in s) (remove ks at))) e (in_map (entry_in s) (remove ks at) l h)))
+      (subst (λ es. IsIn (entry_in s k) es) (map_remove (entry_in s) ks at)
+          (subst (λ z. IsIn (entry_in s z) (map (entry_in s) (remove ks at))) e (in_map (entry_in s) (remove ks at) l h)))
 
   pub id_here : (x : ℕ) → IsEntryAt x (entries_in s ks) at → (entry_in s k).id.0 ≡ x
   id_here x is =
@@ -185,7 +187,8 @@ grown_indexed s t i more kept is = subst (λ u. IsIndexed u i) (sym kept) (recor
 -- the slots by place are in the order of their entries' places
 pub places_of_slots : (s : Slab Entry) (i : Indexes) → AreSlots s i → IsRising (entries_in s i.ids.items) → IsRisingByPlace (tree_of s i) (ids_in s i.places.items)
     → Rises (λ a b. place_order (entry_in s a).node.place (entry_in s b).node.place) i.places.items
-places_of_slots s i slots rise places = rises_alike (λ a b. by_place (tree_of s i) (entry_in s a).id (entry_in s b).id) (λ a b. place_order (entry_in s a).node.place (entry_in s b).node.place) i.places.items
+places_of_slots s i slots rise places = rises_alike (λ a b. by_place (tree_of s i) (entry_in s a).id (entry_in s b).id)
+    (λ a b. place_order (entry_in s a).node.place (entry_in s b).node.place) i.places.items
     (λ a b h k. ap₂ (λ u v. option_cmp place_order (place_of u) (place_of v)) (node_in s i.ids.items rise a (slots.places a h)) (node_in s i.ids.items rise b (slots.places b k)))
     (rises_of_map (by_place (tree_of s i)) (λ k. (entry_in s k).id) i.places.items places)
 
@@ -236,7 +239,8 @@ module _ (s : Slab Entry) (k : ℕ) (i : Indexes) (can : CanEnter s k i) (e : En
     places_now = ap (ids_in s) places ∙ map_insert (λ l. (entry_in s l).id) i.places.items p k ∙ ap (λ (f : Entry). insert (ids_in s i.places.items) p f.id) (entry_is s k e is)
 
     rows_now : rows_in s j.siblings.items ≡ insert (rows_in s i.siblings.items) q (row_of_entry e)
-    rows_now = ap (rows_in s) siblings ∙ map_insert (λ l. row_of_entry (entry_in s l)) i.siblings.items q k ∙ ap (λ (f : Entry). insert (rows_in s i.siblings.items) q (row_of_entry f)) (entry_is s k e is)
+    rows_now = ap (rows_in s) siblings ∙ map_insert (λ l. row_of_entry (entry_in s l)) i.siblings.items q k ∙ ap
+        (λ (f : Entry). insert (rows_in s i.siblings.items) q (row_of_entry f)) (entry_is s k e is)
 
     pub entered_lists : IsPlaceGap whole e.node.place (ids_in s i.places.items) p → IsRowGap (row_of_entry e) (rows_in s i.siblings.items) q → IsIndexOf (tree_of s j) s j
     entered_lists gap row_gap = subst (λ ks. IsIndexOf (nodes_of (entries_in s ks)) s j) (sym (same_ids i j ids)) (record {
@@ -281,8 +285,11 @@ module _ (s : Slab Entry) (k : ℕ) (i : Indexes) (slots : AreSlots s i) (rise :
         let at_place = own_at all (ids_in s i.places.items) lists.places_rise lists.places e.id e.node known p at in
         let at_row = row_at (rows_in s i.siblings.items) lists.siblings_rise (row_of_entry e) q row in
         subst (λ (f : Entry). IsIndexOf (fin.remove all f.id.0) s j) (sym (entry_is s k e is)) (record {
-          places_rise = subst (IsRisingByPlace (fin.remove all e.id.0)) (sym places_left) (without_rises all (ids_in s i.places.items) lists.places_rise lists.places e.id e.node known p at_place);
-          places = subst (Holds (HasNode (fin.remove all e.id.0))) (sym places_left) (without_holds all (ids_in s i.places.items) lists.places_rise lists.places e.id e.node known p at_place);
+          places_rise = subst (IsRisingByPlace (fin.remove all e.id.0)) (sym places_left)
+              (without_rises all (ids_in s i.places.items) lists.places_rise lists.places e.id e.node known p at_place);
+          places = subst (Holds (HasNode (fin.remove all e.id.0))) (sym places_left)
+              (without_holds all (ids_in s i.places.items) lists.places_rise lists.places e.id e.node known p at_place);
           siblings_rise = subst IsRisingByParent (sym rows_left) (without_row_rises (rows_in s i.siblings.items) lists.siblings_rise q);
-          siblings = subst (Holds (IsRow (fin.remove all e.id.0))) (sym rows_left) (without_row all e.id.0 e.node known (rows_in s i.siblings.items) q lists.siblings_rise at_row lists.siblings);
+          siblings = subst (Holds (IsRow (fin.remove all e.id.0))) (sym rows_left)
+              (without_row all e.id.0 e.node known (rows_in s i.siblings.items) q lists.siblings_rise at_row lists.siblings);
         })

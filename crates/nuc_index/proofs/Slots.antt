@@ -135,4 +135,5 @@ pub entries_grown : (s t : Slab Entry) (ks ls : List ℕ) → t ≡ record s { c
 entries_grown s t ks ls kept same = ap (entries_in t) same ∙ ap (λ u. entries_in u ks) kept
 
 pub row_shown : (s : Slab Entry) (ks : List ℕ) (i k : ℕ) (e : Entry) → slice_get ks i ≡ Some k → get s k ≡ Some e → slice_get (rows_in s ks) i ≡ Some (row_of_entry e)
-row_shown s ks i k e at has = get_map (λ l. row_of_entry (entry_in s l)) ks i ∙ ap (option_map (λ l. row_of_entry (entry_in s l))) at ∙ ap (λ (f : Entry). Some (row_of_entry f)) (entry_is s k e has)
+row_shown s ks i k e at has = get_map (λ l. row_of_entry (entry_in s l)) ks i ∙ ap (option_map (λ l. row_of_entry (entry_in s l))) at ∙ ap
+    (λ (f : Entry). Some (row_of_entry f)) (entry_is s k e has)

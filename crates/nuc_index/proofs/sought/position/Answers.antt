@@ -12,27 +12,32 @@ index-requires c = c.requires.full _ (at_in _ _ _ (sym c.get.ensures ∙ c.in-So
 pub loop-low-preserved-in-Less : goal.loop-low-preserved-in-Less
 loop-low-preserved-in-Less c =
     let to = compare_slot c.args.entries.now c.args.sought in
-    let less : to c.in-Some.slot ≡ Less = ap (compare c.args.sought) (entry_is c.args.entries.now c.in-Some.slot c.index.result.now c.index.ensures) ∙ sym c.order_to.ensures ∙ c.in-Less.is in
+    let less : to c.in-Some.slot ≡ Less = ap (compare c.args.sought) (entry_is c.args.entries.now c.in-Some.slot c.index.result.now c.index.ensures)
+        ∙ sym c.order_to.ensures ∙ c.in-Less.is in
     record {
       order = omega arith;
       within = c.loop-low.invariant.within;
-      less = λ k d a b. less_up_to to c.args.slots.now.items (c.loop-low.low + (c.loop-low.high - c.loop-low.low) / 2) c.in-Some.slot c.requires.rise (sym c.get.ensures ∙ c.in-Some.is) less k d a (omega arith);
+      less = λ k d a b. less_up_to to c.args.slots.now.items (c.loop-low.low + (c.loop-low.high - c.loop-low.low) / 2) c.in-Some.slot c.requires.rise
+          (sym c.get.ensures ∙ c.in-Some.is) less k d a (omega arith);
       more = c.loop-low.invariant.more;
     }
 
 pub returns-in-Equal-clause-place : goal.returns-in-Equal-clause-place
-returns-in-Equal-clause-place c = found_at (compare_slot c.args.entries.now c.args.sought) c.args.slots.now.items (c.loop-low.low + (c.loop-low.high - c.loop-low.low) / 2) c.in-Some.slot (sym c.get.ensures ∙ c.in-Some.is)
+returns-in-Equal-clause-place c = found_at (compare_slot c.args.entries.now c.args.sought) c.args.slots.now.items
+    (c.loop-low.low + (c.loop-low.high - c.loop-low.low) / 2) c.in-Some.slot (sym c.get.ensures ∙ c.in-Some.is)
     (ap (compare c.args.sought) (entry_is c.args.entries.now c.in-Some.slot c.index.result.now c.index.ensures) ∙ sym c.order_to.ensures ∙ c.in-Equal.is)
 
 pub loop-low-preserved : goal.loop-low-preserved
 loop-low-preserved c =
     let to = compare_slot c.args.entries.now c.args.sought in
-    let more : to c.in-Some.slot ≡ Greater = ap (compare c.args.sought) (entry_is c.args.entries.now c.in-Some.slot c.index.result.now c.index.ensures) ∙ sym c.order_to.ensures ∙ c.in-Greater.is in
+    let more : to c.in-Some.slot ≡ Greater = ap (compare c.args.sought) (entry_is c.args.entries.now c.in-Some.slot c.index.result.now c.index.ensures)
+        ∙ sym c.order_to.ensures ∙ c.in-Greater.is in
     record {
       order = omega arith;
       within = omega arith;
       less = c.loop-low.invariant.less;
-      more = λ k d a b. more_from to c.args.slots.now.items (c.loop-low.low + (c.loop-low.high - c.loop-low.low) / 2) c.in-Some.slot c.requires.rise (sym c.get.ensures ∙ c.in-Some.is) more k d a b;
+      more = λ k d a b. more_from to c.args.slots.now.items (c.loop-low.low + (c.loop-low.high - c.loop-low.low) / 2) c.in-Some.slot c.requires.rise
+          (sym c.get.ensures ∙ c.in-Some.is) more k d a b;
     }
 
 pub returns-clause-place : goal.returns-clause-place

@@ -7,7 +7,8 @@ use Rattle.nuc_index.proofs.Entries.{absent, someone}
 use Rattle.nuc_index.proofs.tree.IndexTreeTreeLike.cut.Goals as goal
 
 pub returns-in_default-clause-fault : goal.returns-in_default-clause-fault
-returns-in_default-clause-fault c = ap (λ s. map.get s.nodes c.args.id.0) (sym c.self.view_is) ∙ absent _ c.self.invariant.rise c.args.id.0 c.in_default.field-0 c.in_default.ensures.place
+returns-in_default-clause-fault c = ap (λ s. map.get s.nodes c.args.id.0) (sym c.self.view_is) ∙ absent _ c.self.invariant.rise c.args.id.0 c.in_default.field-0
+    c.in_default.ensures.place
 
 pub child_at-requires-clause-full : goal.child_at-requires-clause-full
 child_at-requires-clause-full c k h = c.self.invariant.slots.full k (c.self.invariant.slots.siblings k h)
@@ -19,7 +20,8 @@ returns-then-is_some-clause-fault c =
     let lists = c.self.invariant.lists in
     let view = ap (λ s. s.nodes) c.self.view_is in
     let first = first_row_tells _ _ x c.child_at.result _ view lists.siblings_rise lists.siblings c.child_at.ensures in
-    (someone _ c.self.invariant.rise x c.in-Ok.at c.in-Ok.ensures.place _ view, subst (λ b. MatchBool b (HasChild ns x) (NoChild ns x)) (sym c.is_some.ensures ∙ c.if-is_some.true) first)
+    (someone _ c.self.invariant.rise x c.in-Ok.at c.in-Ok.ensures.place _ view, subst (λ b. MatchBool b (HasChild ns x) (NoChild ns x))
+        (sym c.is_some.ensures ∙ c.if-is_some.true) first)
 
 pub returns-clause-ok : goal.returns-clause-ok
 returns-clause-ok c =
