@@ -79,7 +79,7 @@ lists_still s t i j m k others same also p q lists =
 module _ (s t : Slab Entry) (i j : Indexes) (k at : ℕ) (e : Entry) (form : IsIndexed s i) (gap : IsEntryGap e.id.0 (entries_in s i.ids.items) at)
     (free : IsFree (tree_of s i) e.id.0 e.node.place) (now : get t k ≡ Some e) (others : (l : ℕ) → l ≢ k → get t l ≡ get s l)
     (apart : (l : ℕ) → IsIn l i.ids.items → l ≢ k) (ids : j.ids.items ≡ insert i.ids.items at k) (places : j.places.items ≡ i.places.items)
-        (siblings : j.siblings.items ≡ i.siblings.items) where
+    (siblings : j.siblings.items ≡ i.siblings.items) where
   entries_new : entries_in t j.ids.items ≡ insert (entries_in s i.ids.items) at e
   entries_new = ap (entries_in t) ids ∙ map_insert (entry_in t) i.ids.items at k
       ∙ ap₂ (λ l f. insert l at f) (entries_still s t k others i.ids.items apart) (entry_is t k e now)
@@ -119,7 +119,7 @@ module _ (s : Slab Entry) (ks : List ℕ) (rise : IsRising (entries_in s ks)) (a
   pub once : (l : ℕ) → IsIn l (remove ks at) → l ≢ k
   once l h e = removed_out entry_order (entries_in s ks) at (entry_in s k) (tied_itself nat_cmp_total (entry_in s k).id.0) rise entry_here
       (subst (λ es. IsIn (entry_in s k) es) (map_remove (entry_in s) ks at)
-          (subst (λ z. IsIn (entry_in s z) (map (entry_in s) (remove ks at))) e (in_map (entry_in s) (remove ks at) l h)))
+      (subst (λ z. IsIn (entry_in s z) (map (entry_in s) (remove ks at))) e (in_map (entry_in s) (remove ks at) l h)))
 
   pub id_here : (x : ℕ) → IsEntryAt x (entries_in s ks) at → (entry_in s k).id.0 ≡ x
   id_here x is =

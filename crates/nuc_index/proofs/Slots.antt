@@ -137,3 +137,6 @@ entries_grown s t ks ls kept same = ap (entries_in t) same ∙ ap (λ u. entries
 pub row_shown : (s : Slab Entry) (ks : List ℕ) (i k : ℕ) (e : Entry) → slice_get ks i ≡ Some k → get s k ≡ Some e → slice_get (rows_in s ks) i ≡ Some (row_of_entry e)
 row_shown s ks i k e at has = get_map (λ l. row_of_entry (entry_in s l)) ks i ∙ ap (option_map (λ l. row_of_entry (entry_in s l))) at ∙ ap
     (λ (f : Entry). Some (row_of_entry f)) (entry_is s k e has)
+
+pub entry_shown : (s : Slab Entry) (ks : List ℕ) (i k : ℕ) (e : Entry) → slice_get ks i ≡ Some k → get s k ≡ Some e → slice_get (entries_in s ks) i ≡ Some e
+entry_shown s ks i k e at has = get_map (entry_in s) ks i ∙ ap (option_map (entry_in s)) at ∙ ap Some (entry_is s k e has)

@@ -1,4 +1,4 @@
-ghost use Rattle.std.specs.Prelude.{◌≡◌, ◌<◌, ◌≤◌, length, slice_get, MatchResult, option_copied};
+ghost use Rattle.std.specs.Prelude.{◌≡◌, ◌<◌, ◌≤◌, length, slice_get, IfSome, MatchResult, option_copied};
 ghost use Rattle.std.specs.FinMap as map;
 ghost use Rattle.nuc_index.specs.Entries.{IsRising, IsEntryAt, IsEntryGap, nodes_of};
 ghost use Rattle.nuc_index.specs.Slots.{AreFull, entries_in, ids_in};
@@ -22,7 +22,24 @@ pub fn entry_position(ids: &TieredVec, entries: &Slab<Entry>, id: NodeId) -> Res
     ensures place { MatchResult result (IsEntryAt id.0 (entries_in entries.now ids.now.items)) (IsEntryGap id.0 (entries_in entries.now ids.now.items)) }
     ensures bound { MatchResult result (λ i. i < length ids.now.items) (λ i. i ≤ length ids.now.items) }
 {
-    position(ids, entries, Sought::Id(id))
+    match dense_position(ids, entries, id) {
+        Some(at) => Ok(at),
+        None => position(ids, entries, Sought::Id(id)),
+    }
+}
+
+/// Where the slot of `id` stands if each identity below it has a node, and that is so.
+fn dense_position(ids: &TieredVec, entries: &Slab<Entry>, id: NodeId) -> Option<usize>
+    requires { AreFull entries.now ids.now.items }
+    ensures { IfSome result (λ at. IsEntryAt id.0 (entries_in entries.now ids.now.items) at × (at < length ids.now.items)) }
+{
+    let at = id.0.checked_sub(1)? as usize;
+    let slot = ids.get(at)?;
+    if entries[slot].id == id {
+        Some(at)
+    } else {
+        None
+    }
 }
 
 /// The node of `id`.

@@ -16,7 +16,7 @@ enter-requires-clause-can c =
     let lists : Indexes = record { ids = c.insert.new.self; places = c.reserve-2.new.self.places; siblings = c.reserve-2.new.self.siblings } in
     can_enter_added _ c.reserve.new.self c.insert_reserved-slot.new.self _ c.reserve-2.new.self lists _ _ c.args.entry c.requires.form c.requires.at c.requires.free
     c.reserve.ensures.capacity c.reserve.ensures.rest_kept c.reserve-2.ensures.same c.insert_reserved-slot.ensures.was_vacant c.insert_reserved-slot.ensures.updates
-        c.insert.ensures.items refl refl
+    c.insert.ensures.items refl refl
 
 pub returns-clause-form : goal.returns-clause-form
 returns-clause-form c =
@@ -26,7 +26,7 @@ returns-clause-form c =
       slots = c.enter.ensures.slots;
       rise = rise_added _ c.reserve.new.self c.insert_reserved-slot.new.self _ c.reserve-2.new.self lists _ _ c.args.entry c.requires.form c.requires.at c.requires.free
           c.reserve.ensures.capacity c.reserve.ensures.rest_kept c.reserve-2.ensures.same c.insert_reserved-slot.ensures.was_vacant c.insert_reserved-slot.ensures.updates
-              c.insert.ensures.items refl refl
+          c.insert.ensures.items refl refl
           c.enter.new.self c.enter.ensures.ids;
       lists = c.enter.ensures.lists;
     }
@@ -36,5 +36,5 @@ returns-clause-ok c =
     let lists : Indexes = record { ids = c.insert.new.self; places = c.reserve-2.new.self.places; siblings = c.reserve-2.new.self.siblings } in
     tree_entered _ c.reserve.new.self c.insert_reserved-slot.new.self _ c.reserve-2.new.self lists _ _ c.args.entry c.requires.form c.requires.at c.requires.free
     c.reserve.ensures.capacity c.reserve.ensures.rest_kept c.reserve-2.ensures.same c.insert_reserved-slot.ensures.was_vacant c.insert_reserved-slot.ensures.updates
-        c.insert.ensures.items refl refl
+    c.insert.ensures.items refl refl
     c.enter.new.self c.enter.ensures.ids

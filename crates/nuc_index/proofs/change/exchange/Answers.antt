@@ -17,7 +17,7 @@ index-requires c = c.requires.form.slots.full _ (in_ids c.args.entries.now c.arg
 pub returns-then-stays-clause-form : goal.returns-then-stays-clause-form
 returns-then-stays-clause-form c =
     let same = subst (λ (f : Entry). SamePlace f.node.place c.args.entry.node.place)
-        (sym (entry_is c.args.entries.now c.slot_at-slot.result c.index.result.now c.index.ensures)) c.if-stays.ensures in
+    (sym (entry_is c.args.entries.now c.slot_at-slot.result c.index.result.now c.index.ensures)) c.if-stays.ensures in
     indexed_still c.args.entries.now c.args.indexes.now c.requires.form c.args.at c.slot_at-slot.result c.slot_at-slot.ensures c.replace.new.entries c.args.entry
     c.replace.ensures.updates.changed c.replace.ensures.updates.others c.requires.at same (grind (arith, common_steps, c.requires.form.fits))
 
@@ -38,7 +38,7 @@ pub enter-requires-clause-can : goal.enter-requires-clause-can
 enter-requires-clause-can c =
     can_enter_over c.args.entries.now c.args.indexes.now c.requires.form c.args.at c.slot_at-slot.result c.slot_at-slot.ensures c.replace-before.new.entries c.args.entry
     c.replace-before.ensures.updates.changed c.replace-before.ensures.updates.others c.requires.at c.leave.new.self c.leave.ensures.ids c.leave.ensures.slots
-        c.requires.free c.leave.ensures.lists
+    c.requires.free c.leave.ensures.lists
 
 pub returns-clause-form : goal.returns-clause-form
 returns-clause-form c = record {

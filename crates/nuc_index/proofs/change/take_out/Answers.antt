@@ -48,4 +48,4 @@ returns-clause-nodes c =
     (λ l h. subst (λ v. IsIn l v.items) c.leave.ensures.ids (c.leave.ensures.slots.siblings l h))
     c.leave.ensures.lists
     ∙ ap (map.remove (tree_of c.args.entries.now c.args.indexes.now))
-        (id_here c.args.entries.now c.args.indexes.now.ids.items c.requires.form.rise c.args.at c.slot_at-slot.result c.slot_at-slot.ensures c.args.id.0 c.requires.at)
+    (id_here c.args.entries.now c.args.indexes.now.ids.items c.requires.form.rise c.args.at c.slot_at-slot.result c.slot_at-slot.ensures c.args.id.0 c.requires.at)

@@ -13,7 +13,7 @@ pub loop-low-preserved-in-Less : goal.loop-low-preserved-in-Less
 loop-low-preserved-in-Less c =
     let to = compare_slot c.args.entries.now c.args.sought in
     let less : to c.in-Some.slot ≡ Less = ap (compare c.args.sought) (entry_is c.args.entries.now c.in-Some.slot c.index.result.now c.index.ensures)
-        ∙ sym c.order_to.ensures ∙ c.in-Less.is in
+    ∙ sym c.order_to.ensures ∙ c.in-Less.is in
     record {
       order = omega arith;
       within = c.loop-low.invariant.within;
@@ -31,7 +31,7 @@ pub loop-low-preserved : goal.loop-low-preserved
 loop-low-preserved c =
     let to = compare_slot c.args.entries.now c.args.sought in
     let more : to c.in-Some.slot ≡ Greater = ap (compare c.args.sought) (entry_is c.args.entries.now c.in-Some.slot c.index.result.now c.index.ensures)
-        ∙ sym c.order_to.ensures ∙ c.in-Greater.is in
+    ∙ sym c.order_to.ensures ∙ c.in-Greater.is in
     record {
       order = omega arith;
       within = omega arith;

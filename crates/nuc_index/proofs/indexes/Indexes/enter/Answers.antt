@@ -26,7 +26,7 @@ pub returns-clause-slots : goal.returns-clause-slots
 returns-clause-slots c =
     let after : Indexes = record { ids = c.args.self.now.ids; places = c.insert.new.self; siblings = c.insert-2.new.self } in
     entered_slots c.args.entries.now c.args.slot c.args.self.now c.requires.can c.index.result.now c.index.ensures after c.in-Err.at c.in-Err-sibling_position.beside refl
-        c.insert.ensures.items c.insert-2.ensures.items
+    c.insert.ensures.items c.insert-2.ensures.items
 
 pub returns-clause-lists : goal.returns-clause-lists
 returns-clause-lists c =
@@ -34,6 +34,6 @@ returns-clause-lists c =
     let after : Indexes = record { ids = c.args.self.now.ids; places = c.insert.new.self; siblings = c.insert-2.new.self } in
     let row = c.row_of-row.ensures ∙ ap row_of_entry (same_sight s c.args.slot c.index-2.result.now c.index.result.now c.index-2.ensures c.index.ensures) in
     entered_lists s c.args.slot c.args.self.now c.requires.can c.index.result.now c.index.ensures after c.in-Err.at c.in-Err-sibling_position.beside refl
-        c.insert.ensures.items c.insert-2.ensures.items
+    c.insert.ensures.items c.insert-2.ensures.items
     c.in-Err.ensures.place
     (subst (λ r. IsRowGap r (rows_in s c.args.self.now.siblings.items) c.in-Err-sibling_position.beside) row c.in-Err-sibling_position.ensures.place)

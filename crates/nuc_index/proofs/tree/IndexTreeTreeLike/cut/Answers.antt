@@ -19,9 +19,11 @@ returns-then-is_some-clause-fault c =
     let ns = c.args.self.now.nodes in
     let lists = c.self.invariant.lists in
     let view = ap (λ s. s.nodes) c.self.view_is in
-    let first = first_row_tells _ _ x c.child_at.result _ view lists.siblings_rise lists.siblings c.child_at.ensures in
-    (someone _ c.self.invariant.rise x c.in-Ok.at c.in-Ok.ensures.place _ view, subst (λ b. MatchBool b (HasChild ns x) (NoChild ns x))
-        (sym c.is_some.ensures ∙ c.if-is_some.true) first)
+    let first = first_row_tells _ _ x c.child_at.result _ view lists.siblings_rise lists.siblings c.child_at.ensures in (
+      someone _ c.self.invariant.rise x c.in-Ok.at c.in-Ok.ensures.place _ view,
+      subst (λ b. MatchBool b (HasChild ns x) (NoChild ns x))
+          (sym c.is_some.ensures ∙ c.if-is_some.true) first,
+    )
 
 pub returns-clause-ok : goal.returns-clause-ok
 returns-clause-ok c =

@@ -22,4 +22,4 @@ invariant_of-self-2 c = kept_lists _ _ _ c.reserve-2.ensures.same (grown_indexed
 pub returns-clause-tree : goal.returns-clause-tree
 returns-clause-tree c form = subst WellFormed
     (sym (ap (λ s. s.nodes) c.self.view_is) ∙ ap (λ s. tree_of s c.self.inside.indexes) (sym c.reserve.ensures.rest_kept) ∙ ap
-        (λ ks. nodes_of (entries_in c.reserve.new.self ks)) (sym c.reserve-2.ensures.same.ids)) form
+    (λ ks. nodes_of (entries_in c.reserve.new.self ks)) (sym c.reserve-2.ensures.same.ids)) form
