@@ -9,7 +9,7 @@ use thiserror::Error;
 /// Why there is no answer.
 #[derive(Debug, Drop, Error)]
 pub(crate) enum Fault {
-    #[error("usage: nucleus_bench hash SIZE PIECE | nucleus_bench sha2 SIZE PIECE, in bytes | nucleus_bench many FILES SIZE | nucleus_bench store|journal|edits|tree|commits COUNT | nucleus_bench listing COUNT none|same|changed | nucleus_bench plan COUNT DIFFERING TIMES | nucleus_bench ask plain|index put|at|child|under|cut COUNT")]
+    #[error("usage: nucleus_bench hash SIZE PIECE | nucleus_bench sha2 SIZE PIECE, in bytes | nucleus_bench many FILES SIZE | nucleus_bench store|journal|edits|tree|commits COUNT | nucleus_bench listing COUNT none|same|changed | nucleus_bench plan COUNT DIFFERING TIMES | nucleus_bench ask plain|index put|at|child|under|cut|shuffle COUNT")]
     Usage,
     #[error("a count is a number from 1 to 4000000")]
     Count,
