@@ -8,5 +8,5 @@ pub returns-clause-up : goal.returns-clause-up
 returns-clause-up c =
     let head = (get_or c.args.heads.now c.args.k 0 + 511) % 512 in
     ap₂ (λ x y. insert (row (set c.args.cells.now (c.args.k * 512 + head) x) (set c.args.heads.now c.args.k head)) (c.args.k * 512 + 512) y) c.replace.ensures.after
-        c.replace.ensures.value
+    c.replace.ensures.value
     ∙ turned _ _ c.args.k c.args.hand head (c.args.k * 512 + head) c.requires.form.blocks c.requires.within refl refl

@@ -14,9 +14,9 @@ returns-clause-items c =
     let le : c.args.i ≤ n = omega (arith, items_length _ _ n c.self.invariant, ap length items_are) in
     let behind : suc n ≤ c.reach-end.result = omega (arith, c.reach-end.ensures.behind) in
     let within : c.reach-end.result ≤ length (row c.move_up.new.cells c.move_up.new.heads) = omega
-        (arith, row_length c.move_up.new.cells c.move_up.new.heads, ap length c.deref_mut.ensures.value, c.reach-end.ensures.within) in
+    (arith, row_length c.move_up.new.cells c.move_up.new.heads, ap length c.deref_mut.ensures.value, c.reach-end.ensures.within) in
     ap₂ (λ a b. take (n + 1) (row a b)) (written c.move_up.new.cells _ _ (c.move_up.ensures.length ∙ c.deref_mut.ensures.len))
-        (written c.move_up.new.heads _ _ (omega (arith, c.deref_mut-2.ensures.len)))
+    (written c.move_up.new.heads _ _ (omega (arith, c.deref_mut-2.ensures.len)))
     ∙ ap (λ m. take m (row c.move_up.new.cells c.move_up.new.heads)) next
     ∙ inserted (row c.self.inside.cells.items c.self.inside.heads.items) _ c.args.i n c.reach-end.result c.args.x c.move_up.result le behind within (
     c.move_up.ensures.row

@@ -17,7 +17,7 @@ returns-clause-items c =
     let long : length new ≡ length old =
     row_length _ c.move_down-result.new.heads ∙ c.move_down-result.ensures.length ∙ ap length c.deref_mut.ensures.value ∙ sym (row_length _ c.self.inside.heads.items) in
     ap₂ (λ a b. take (n - 1) (row a b)) (written c.move_down-result.new.cells _ _ (c.move_down-result.ensures.length ∙ c.deref_mut.ensures.len))
-        (written c.move_down-result.new.heads _ _ (omega (arith, c.deref_mut-2.ensures.len)))
+    (written c.move_down-result.new.heads _ _ (omega (arith, c.deref_mut-2.ensures.len)))
     ∙ removed old new c.args.i (n - 1) c.reach-end.result 0 c.move_down-result.result (omega arith) (omega (arith, c.reach-end.ensures.behind))
     (omega (arith, c.reach-end.ensures.within, row_length c.self.inside.cells.items c.self.inside.heads.items)) long (
     c.move_down-result.ensures.row
